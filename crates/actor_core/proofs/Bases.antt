@@ -6,12 +6,12 @@ use Rattle.std.specs.Prelude.{not, filter, map}
 use Rattle.std.specs.List.{AllByRecursion}
 use Rattle.std.proofs.lemmas.Bool.{eqb-true, eq-eqb}
 use Rattle.std.proofs.lemmas.List.Elements.{All-from_recursion}
-use Rattle.join_rows.specs.declared.table.Side.{Side}
-use Rattle.join_rows.specs.declared.table.Side.TheVariants.{R, S}
-use Rattle.join_rows.proofs.Bags.{only_if}
-use Rattle.join_rows.proofs.Everywhere.{weaken, all-map}
-use Rattle.join_rows.proofs.Totals.{sum_same_on, sum_zero}
-use Rattle.join_rows.proofs.Within.{within-refl, filtered_within, none_fails, all_pass}
+use Rattle.row_cells.specs.declared.table.Side.{Side}
+use Rattle.row_cells.specs.declared.table.Side.TheVariants.{R, S}
+use Rattle.row_cells.proofs.Bags.{only_if}
+use Rattle.row_cells.proofs.Everywhere.{weaken, all-map}
+use Rattle.row_cells.proofs.Totals.{sum_same_on, sum_zero}
+use Rattle.row_cells.proofs.Within.{within-refl, filtered_within, none_fails, all_pass}
 use Rattle.epoch_tags.specs.declared.tuple.Tuple.{Tuple}
 use Rattle.migration_plan.specs.Steps.{holds}
 use Rattle.row_tickets.specs.declared.place.Place.{Place}

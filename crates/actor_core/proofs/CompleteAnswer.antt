@@ -3,7 +3,7 @@ use Rattle.std.proofs.Common.{◌≡◌, ℕ, ◌+◌, ◌<◌, ◌^◌, sym, ap
 use Rattle.std.specs.Prelude.{slice_get, ⊤}
 use Rattle.epoch_tags.specs.declared.actor.Actor.{Actor}
 use Rattle.epoch_tags.specs.declared.actor.Actor.TheVariants.{Joiner, Controller, Collector}
-use Rattle.join_rows.specs.Lists.{SameBag}
+use Rattle.row_cells.specs.Lists.{SameBag}
 use Rattle.store_parts.specs.Stored.{Stored}
 use Rattle.joiner_core.specs.State.{tuples_of}
 use Rattle.load_controller.specs.declared.line.TurnLine.{TurnLine}

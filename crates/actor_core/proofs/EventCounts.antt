@@ -5,9 +5,9 @@ use Rattle.std.specs.Prelude.{bit_xor}
 use Rattle.std.specs.List.{AllByRecursion, cons_option}
 use Rattle.std.proofs.lemmas.List.{length-append}
 use Rattle.std.proofs.lemmas.List.Elements.{filter_map-append, recursion_from_All}
-use Rattle.join_rows.specs.Lists.{IsPrefix, total}
-use Rattle.join_rows.proofs.Totals.{total_le, total_but}
-use Rattle.join_rows.proofs.Everywhere.{all-append, all-back}
+use Rattle.row_cells.specs.Lists.{IsPrefix, total}
+use Rattle.row_cells.proofs.Totals.{total_le, total_but}
+use Rattle.row_cells.proofs.Everywhere.{all-append, all-back}
 use Rattle.epoch_tags.specs.declared.actor.Actor.{Actor}
 use Rattle.epoch_tags.specs.declared.actor.Actor.TheVariants.{Feeder, Joiner, Controller, Collector}
 use Rattle.epoch_tags.specs.declared.message.Msg.{Msg}

@@ -2,8 +2,8 @@
 use Rattle.std.proofs.Common.{◌≡◌, ℕ, zero, suc, ◌+◌, ◌-◌, ◌<◌, ◌≤◌, refl, sym, ap, subst, ◌∙◌, cond, Option, Some}
 use Rattle.std.proofs.Common.{None, List, [], ◌∷◌, ◌++◌, length, append_assoc, arith}
 use Rattle.std.specs.List.{AllByRecursion}
-use Rattle.join_rows.specs.Lists.{IsPrefix}
-use Rattle.join_rows.proofs.Everywhere.{all-append}
+use Rattle.row_cells.specs.Lists.{IsPrefix}
+use Rattle.row_cells.proofs.Everywhere.{all-append}
 use Rattle.epoch_tags.specs.declared.actor.Actor.{Actor}
 use Rattle.epoch_tags.specs.declared.actor.Actor.TheVariants.{Feeder, Joiner, Controller, Collector}
 use Rattle.epoch_tags.specs.declared.message.Msg.{Msg}

@@ -5,8 +5,8 @@ use Rattle.std.proofs.Common.{◌≡◌, ℕ, ◌<◌, ◌^◌, ltb, ltb-true, l
 use Rattle.std.proofs.Common.{true, false, Option, List, [], filter_map}
 use Rattle.std.proofs.Math.Bridge.{le_prop}
 use Rattle.std.proofs.lemmas.List.Elements.{filter_map-append}
-use Rattle.join_rows.specs.Lists.{IsPrefix, SameBag}
-use Rattle.join_rows.proofs.Totals.{greatest_above}
+use Rattle.row_cells.specs.Lists.{IsPrefix, SameBag}
+use Rattle.row_cells.proofs.Totals.{greatest_above}
 use Rattle.epoch_tags.specs.declared.actor.Actor.{Actor}
 use Rattle.epoch_tags.specs.declared.actor.Actor.TheVariants.{Feeder, Joiner, Controller, Collector}
 use Rattle.epoch_tags.specs.declared.message.ToFeeder.{ToFeeder}

@@ -1,7 +1,7 @@
 -- Machines without a journal.
 use Rattle.std.proofs.Common.{◌≡◌, sym, ◌∙◌, [], Result, Ok, Err}
 use Rattle.std.specs.Prelude.{OnOk}
-use Rattle.join_rows.specs.Lists.{IsPrefix}
+use Rattle.row_cells.specs.Lists.{IsPrefix}
 use Rattle.actor_core.specs.Families.{journal_of}
 use Rattle.actor_core.specs.declared.machines.Core.{Core}
 use Rattle.actor_core.proofs.Runs.{prefix_self}

@@ -5,8 +5,8 @@ use Rattle.std.proofs.Common.{List, [], ◌∷◌, ◌++◌, length, get_or}
 use Rattle.std.specs.Prelude.{slice_get, reverse, All}
 use Rattle.std.proofs.lemmas.List.{length-append, get_or-map}
 use Rattle.std.proofs.lemmas.Option.{get_or_from_slice_get, slice_get-get_or}
-use Rattle.join_rows.specs.Lists.{SameBag}
-use Rattle.join_rows.proofs.Bags.{SameBag-map, SameBag-trans}
+use Rattle.row_cells.specs.Lists.{SameBag}
+use Rattle.row_cells.proofs.Bags.{SameBag-map, SameBag-trans}
 use Rattle.epoch_tags.specs.declared.actor.Actor.{Actor}
 use Rattle.epoch_tags.specs.declared.actor.Actor.TheVariants.{Joiner}
 use Rattle.theta_pred.specs.Formula.{Meaning}

@@ -4,7 +4,7 @@ use Rattle.std.proofs.Common.{Option, Some, None, List, get_or, map, length, ari
 use Rattle.std.specs.Prelude.{slice_get}
 use Rattle.std.proofs.lemmas.List.{get_or-map, length-map}
 use Rattle.std.proofs.lemmas.Option.{slice_get-get_or, slice_get_within}
-use Rattle.join_rows.specs.Lists.{IsPrefix}
+use Rattle.row_cells.specs.Lists.{IsPrefix}
 use Rattle.epoch_tags.specs.declared.actor.Actor.{Actor}
 use Rattle.epoch_tags.specs.declared.actor.Actor.TheVariants.{Feeder, Joiner, Controller, Collector}
 use Rattle.theta_pred.specs.Formula.{Meaning}

@@ -6,11 +6,11 @@ use Rattle.std.specs.Prelude.{not, filter, sum_by, nat_lt, All}
 use Rattle.std.specs.List.{AllByRecursion}
 use Rattle.std.proofs.lemmas.List.{length-take-le, get_or-take}
 use Rattle.std.proofs.lemmas.List.Elements.{All-from_recursion, recursion_from_All}
-use Rattle.join_rows.specs.declared.table.Side.{Side}
-use Rattle.join_rows.specs.declared.table.Side.TheVariants.{R, S}
-use Rattle.join_rows.proofs.Bags.{only_if}
-use Rattle.join_rows.proofs.Totals.{total_same, total-zero, total_part}
-use Rattle.join_rows.proofs.Within.{none_fails}
+use Rattle.row_cells.specs.declared.table.Side.{Side}
+use Rattle.row_cells.specs.declared.table.Side.TheVariants.{R, S}
+use Rattle.row_cells.proofs.Bags.{only_if}
+use Rattle.row_cells.proofs.Totals.{total_same, total-zero, total_part}
+use Rattle.row_cells.proofs.Within.{none_fails}
 use Rattle.reshuffler_core.specs.Batches.{cut}
 use Rattle.row_tickets.specs.declared.place.Feed.{Feed}
 use Rattle.row_tickets.specs.declared.place.Place.{Place}

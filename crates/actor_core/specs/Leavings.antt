@@ -1,6 +1,6 @@
 -- What the machines of a wave leave.
 use Rattle.std.specs.Prelude.{◌≡◌, ℕ, ◌+◌, ◌-◌, List, [], ◌∷◌, ◌++◌, Some, length, slice_get}
-use Rattle.join_rows.specs.Lists.{SameBag}
+use Rattle.row_cells.specs.Lists.{SameBag}
 use Rattle.store_parts.specs.Stored.{Stored}
 use Rattle.joiner_law.specs.Law.{JoinerStart, JoinerLists, store}
 use Rattle.joiner_core.specs.State.{tuples_of, IsKeyOf}

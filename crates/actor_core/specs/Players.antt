@@ -2,7 +2,7 @@
 use Rattle.std.specs.Prelude.{◌≡◌, ⊤, ℕ, zero, suc, Bool, false, Option, Some, None, List, [], length}
 use Rattle.std.specs.Prelude.{slice_get}
 use Rattle.std.specs.List.{AllByRecursion}
-use Rattle.join_rows.specs.Lists.{IsPrefix}
+use Rattle.row_cells.specs.Lists.{IsPrefix}
 use Rattle.epoch_tags.specs.declared.actor.Actor.{Actor}
 use Rattle.epoch_tags.specs.declared.actor.Actor.TheVariants.{Controller, Collector}
 use Rattle.epoch_tags.specs.Links.{HasLink}

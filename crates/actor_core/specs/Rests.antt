@@ -1,6 +1,6 @@
 -- What a wave leaves for the next, where a wave ends, and the machines of a wave before its first event.
 use Rattle.std.specs.Prelude.{◌≡◌, ◌≤◌, ◌^◌, ℕ, All, List, [], Some, length, map, take, slice_get, slice_index_or}
-use Rattle.join_rows.specs.declared.table.Side.TheVariants.{R, S}
+use Rattle.row_cells.specs.declared.table.Side.TheVariants.{R, S}
 use Rattle.epoch_tags.specs.declared.tuple.Tuple.{Tuple}
 use Rattle.theta_pred.specs.Formula.{Meaning}
 use Rattle.store_parts.specs.Stored.{Stored}

@@ -3,7 +3,7 @@ ghost use Rattle.std.specs.Prelude.{◌≡◌, Ok, true, false, IfSome, IfNone, 
 ghost use Rattle.load_controller.specs.Standing.{ControllerState};
 ghost use Rattle.pair_collector.specs.Standing.{CollectorState};
 ghost use Rattle.actor_core.specs.declared.machines.Core.TheVariants.{Controller as TheController, Collector as TheCollector};
-ghost use Rattle.join_rows.specs.Lists.{IsPrefix};
+ghost use Rattle.row_cells.specs.Lists.{IsPrefix};
 ghost use Rattle.actor_core.specs.Families.{journal_of};
 ghost use Rattle.actor_core.specs.Lists.{Took, Began};
 ghost use Rattle.actor_core.specs.Standing.{Occurs, IsOver, GoesOn, Waits, IsLive, given_by};

@@ -9,9 +9,9 @@ ghost use Rattle.trace_law.specs.Family.{first_rest};
 ghost use Rattle.actor_core.specs.Rests.{IsFirstStore, IsRestOf, rest_of};
 
 use crate::start::power;
-use join_rows::Items;
 use joiner_core::first_store;
 use load_controller::{Cause, TurnLine};
+use row_cells::Items;
 use std::alloc::{AllocError, Global};
 use store_parts::Store;
 use theta_pred::Theta;

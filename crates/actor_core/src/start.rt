@@ -2,7 +2,7 @@
 
 ghost use Rattle.std.specs.Prelude.{◌≡◌, ◌<◌, ◌≤◌, ◌+◌, ◌^◌, IfOk, map};
 ghost use Rattle.row_tickets.specs.Share.{share as share'};
-ghost use Rattle.join_rows.specs.declared.table.Side.TheVariants.{R as R', S as S'};
+ghost use Rattle.row_cells.specs.declared.table.Side.TheVariants.{R as R', S as S'};
 ghost use Rattle.load_controller.specs.Journal.{begun};
 ghost use Rattle.load_controller.specs.Standing.{just_begun as controller_begun};
 ghost use Rattle.pair_collector.specs.Standing.{just_begun as collector_begun};
@@ -19,11 +19,11 @@ ghost use Rattle.actor_core.specs.declared.machines.Core.TheVariants.{Controller
 
 use crate::machines::Core;
 use epoch_tags::{Tuple, Tuples};
-use join_rows::{Cells, Side};
 use joiner_core::Joiner;
 use load_controller::Controller;
 use pair_collector::Collector;
 use reshuffler_core::Feeder;
+use row_cells::{Cells, Side};
 use row_tickets::{Place, share};
 use std::alloc::{AllocError, Global};
 use trace_law::{Input, Setting};

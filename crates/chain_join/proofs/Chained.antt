@@ -6,10 +6,10 @@ use Rattle.std.specs.Prelude.{All}
 use Rattle.std.proofs.lemmas.List.{length-append, length-map}
 use Rattle.std.proofs.lemmas.List.Elements.{All-map}
 use Rattle.std.proofs.lemmas.List.FromFn.{length-map-range_with_len}
-use Rattle.join_rows.specs.declared.table.Cell.{Cell}
-use Rattle.join_rows.specs.declared.table.Side.TheVariants.{R, S}
-use Rattle.join_rows.specs.declared.table.Table.{Table}
-use Rattle.join_rows.proofs.Everywhere.{weaken}
+use Rattle.row_cells.specs.declared.table.Cell.{Cell}
+use Rattle.row_cells.specs.declared.table.Side.TheVariants.{R, S}
+use Rattle.row_cells.specs.declared.table.Table.{Table}
+use Rattle.row_cells.proofs.Everywhere.{weaken}
 use Rattle.epoch_tags.specs.declared.tuple.Pair.{Pair}
 use Rattle.theta_pred.specs.Truth.{holds}
 use Rattle.row_tickets.specs.Tickets.{ticket_of}

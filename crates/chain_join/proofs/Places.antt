@@ -5,7 +5,7 @@ use Rattle.std.specs.Prelude.{All, filter_map}
 use Rattle.std.specs.List.{AllByRecursion, cons_option, enumerate_from}
 use Rattle.std.proofs.lemmas.List.{length-append}
 use Rattle.std.proofs.Math.Seq.{get_or-append_seam}
-use Rattle.join_rows.proofs.Everywhere.{all-flat_map, weaken}
+use Rattle.row_cells.proofs.Everywhere.{all-flat_map, weaken}
 use Rattle.epoch_tags.specs.declared.tuple.Pair.{Pair}
 use Rattle.epoch_tags.specs.Loop.{nested_loop}
 

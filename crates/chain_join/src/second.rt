@@ -7,8 +7,8 @@ ghost use Rattle.joined_rows.specs.Joined.{joined_names as joined_names'};
 ghost use Rattle.chain_join.specs.Chains.{IsWide, joined_rows as joined_rows', second_input as second_input', tickets_of};
 
 use epoch_tags::Pair;
-use join_rows::{Bytes, Rows, Side, Table};
 use joined_rows::{joined_names, joined_rows};
+use row_cells::{Bytes, Rows, Side, Table};
 use row_tickets::tickets;
 use std::alloc::{AllocError, Global};
 use theta_pred::Theta;

@@ -4,7 +4,7 @@ ghost use Rattle.std.specs.Prelude.{◌≡◌, ◌<◌, All, IfOk, length, map};
 ghost use Rattle.chain_join.specs.Triples.{triple_at as triple_at'};
 
 use epoch_tags::Pair;
-use join_rows::Items;
+use row_cells::Items;
 use std::alloc::{AllocError, Global};
 
 /// A row of R, a row of S and a row of Q, by their numbers counted from 0.

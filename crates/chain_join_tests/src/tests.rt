@@ -5,7 +5,7 @@ ghost use Rattle.chain_join.specs.Chains.{IsWide};
 
 use chain_join::{ChainFault, ChainRun, Third, Triple, joined_names, run_chain};
 use grid_map::Weights;
-use join_rows::{Bytes, Cell, Cells, Names, Rows, Table};
+use row_cells::{Bytes, Cell, Cells, Names, Rows, Table};
 use row_tickets::Feed;
 use std::alloc::{AllocError, Global};
 use std::sync::Wait;

@@ -6,11 +6,11 @@ use Rattle.std.proofs.Math.Nat.{mod-eq_of_lt}
 use Rattle.std.proofs.lemmas.Bool.{cases_lt, le-ltb, ne_eqb, eqb-true}
 use Rattle.std.proofs.lemmas.Nat.{shl-shr, shr_split, shr_below, mod_below, pow_pos, pow-add, mul-add-lt}
 use Rattle.std.proofs.lemmas.List.Sums.{sum_by-append}
-use Rattle.join_rows.specs.declared.table.Side.{Side}
-use Rattle.join_rows.specs.declared.table.Side.TheVariants.{R, S}
-use Rattle.join_rows.specs.Lists.{SameBag, gather, total}
-use Rattle.join_rows.proofs.Bags.{only_if, sum-same, sum-filter, sum_of_map}
-use Rattle.join_rows.proofs.Totals.{total_same, total-zero, one_index, exchange, sum_plus, sum-gather, zeros}
+use Rattle.row_cells.specs.declared.table.Side.{Side}
+use Rattle.row_cells.specs.declared.table.Side.TheVariants.{R, S}
+use Rattle.row_cells.specs.Lists.{SameBag, gather, total}
+use Rattle.row_cells.proofs.Bags.{only_if, sum-same, sum-filter, sum_of_map}
+use Rattle.row_cells.proofs.Totals.{total_same, total-zero, one_index, exchange, sum_plus, sum-gather, zeros}
 use Rattle.epoch_tags.specs.declared.tuple.Tuple.{Tuple}
 use Rattle.grid_map.specs.Grid.{row_of}
 use Rattle.grid_map.proofs.Halves.{high_row}

@@ -6,7 +6,7 @@ ghost use Rattle.elastic_grow.specs.Stores.{AreKept};
 
 use crate::split::{parent, power};
 use grid_map::Shape;
-use join_rows::Items;
+use row_cells::Items;
 use std::alloc::{AllocError, Global};
 use store_parts::Store;
 

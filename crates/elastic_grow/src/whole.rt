@@ -2,7 +2,7 @@
 
 ghost use Rattle.std.specs.Prelude.{◌≡◌, ◌≤◌, ◌^◌, ◌*◌, ◌++◌, IsPermutation, true, filter, IfOk, OnOk};
 ghost use Rattle.std.specs.List.Sorted.{IsNonDecreasingBy};
-ghost use Rattle.join_rows.specs.Lists.{gather};
+ghost use Rattle.row_cells.specs.Lists.{gather};
 ghost use Rattle.epoch_tags.specs.declared.tuple.Tuple.{Tuple as Tuple'};
 ghost use Rattle.migration_plan.specs.Steps.{is_of};
 ghost use Rattle.store_parts.specs.Matches.{HasWidth};
@@ -12,8 +12,8 @@ ghost use Rattle.elastic_grow.specs.Stores.{side_at, with_all, IsWhole};
 
 use crate::split::power;
 use epoch_tags::{Tuple, Tuples};
-use join_rows::Side;
 use joiner_core::first_store;
+use row_cells::Side;
 use std::alloc::{AllocError, Global};
 use store_parts::Store;
 use theta_pred::Theta;

@@ -1,7 +1,7 @@
 // Messages that can't be taken yet, sender by sender.
 
 ghost use Rattle.std.specs.Prelude.{◌≡◌, ◌<◌, ◌++◌, ◌∷◌, ◌^◌, ◌-◌, [], ℕ, true, false, length, min, slice_set, MatchOption, IfOk, OnOk, OnErr};
-ghost use Rattle.join_rows.specs.Lists.{total};
+ghost use Rattle.row_cells.specs.Lists.{total};
 ghost use Rattle.epoch_tags.specs.Held.{held_at, BeginsWith};
 
 use std::alloc::{AllocError, Global};

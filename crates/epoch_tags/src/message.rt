@@ -3,7 +3,7 @@
 use crate::actor::Actor;
 use crate::pairs::Pairs;
 use crate::tuple::{Counts, Tuple};
-use join_rows::Items;
+use row_cells::Items;
 
 /// A message to a joiner.
 #[derive(Drop)]

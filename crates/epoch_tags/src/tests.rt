@@ -1,5 +1,5 @@
 use crate::{Counts, Held, Pair, Pairs, Tuple, all_down, are_all_up, is_up};
-use join_rows::{Cell, Cells, Side};
+use row_cells::{Cell, Cells, Side};
 use std::test::Fail;
 
 #[test]

@@ -2,7 +2,7 @@
 
 ghost use Rattle.std.specs.Prelude.{◌≡◌, IfOk};
 
-use join_rows::{Cells, Items, Side};
+use row_cells::{Cells, Items, Side};
 use std::alloc::AllocError;
 
 /// A row of one side with its ticket, and as its stamp the epoch in which it was counted.

@@ -4,11 +4,11 @@ use Rattle.std.specs.Prelude.{All, sum_by, slice_index, slice_index_or, None, If
 use Rattle.std.proofs.lemmas.List.{get_or-map, length-map}
 use Rattle.std.proofs.lemmas.List.Elements.{All-map}
 use Rattle.std.proofs.lemmas.List.Sums.{sum_by-cons}
-use Rattle.join_rows.specs.declared.table.Side.{Side}
-use Rattle.join_rows.specs.declared.table.Side.TheVariants.{R, S}
-use Rattle.join_rows.specs.Lists.{total}
-use Rattle.join_rows.proofs.Bags.{only_if, sum_of_map}
-use Rattle.join_rows.proofs.Totals.{total_same, total_front}
+use Rattle.row_cells.specs.declared.table.Side.{Side}
+use Rattle.row_cells.specs.declared.table.Side.TheVariants.{R, S}
+use Rattle.row_cells.specs.Lists.{total}
+use Rattle.row_cells.proofs.Bags.{only_if, sum_of_map}
+use Rattle.row_cells.proofs.Totals.{total_same, total_front}
 use Rattle.epoch_tags.specs.declared.tuple.Pair.{Pair}
 use Rattle.trace_law.specs.declared.input.Input.{Input}
 use Rattle.trace_law.specs.declared.setting.Setting.{Setting}

@@ -9,9 +9,9 @@ use Rattle.std.proofs.lemmas.List.{map-id}
 use Rattle.std.proofs.lemmas.List.Elements.{All-filter}
 use Rattle.std.proofs.lemmas.List.FromFn.{filter_of_map_range_with_len_more, get_or-range_with_len}
 use Rattle.std.proofs.lemmas.List.FromFn.{length-range_with_len}
-use Rattle.join_rows.specs.Lists.{total}
-use Rattle.join_rows.proofs.Bags.{only_if, sum-filter}
-use Rattle.join_rows.proofs.Totals.{total_same, exchange, range_sum, filter_fewer}
+use Rattle.row_cells.specs.Lists.{total}
+use Rattle.row_cells.proofs.Bags.{only_if, sum-filter}
+use Rattle.row_cells.proofs.Totals.{total_same, exchange, range_sum, filter_fewer}
 use Rattle.group_split.specs.Sizes.{digits, sizes, before, IsGroupOf, is_of}
 use Rattle.group_split.specs.Parts.{part}
 use Rattle.group_split.proofs.BinaryDigits.{sum-cons, sum_sizes, all_taken}

@@ -10,10 +10,10 @@ use Rattle.std.proofs.lemmas.Bool.{lt-ltb}
 use Rattle.std.proofs.lemmas.List.Elements.{All-from_recursion}
 use Rattle.std.proofs.lemmas.List.Sums.{sum_by-cons, sum_by-append}
 use Rattle.std.proofs.lemmas.Option.{get_or_from_slice_get}
-use Rattle.join_rows.specs.declared.table.Side.TheVariants.{R, S}
-use Rattle.join_rows.specs.Lists.{SameBag, total}
-use Rattle.join_rows.proofs.Bags.{only_if, SameBag-permutation, SameBag-sym, SameBag-trans}
-use Rattle.join_rows.proofs.Totals.{total_same, zeros, total-zero}
+use Rattle.row_cells.specs.declared.table.Side.TheVariants.{R, S}
+use Rattle.row_cells.specs.Lists.{SameBag, total}
+use Rattle.row_cells.proofs.Bags.{only_if, SameBag-permutation, SameBag-sym, SameBag-trans}
+use Rattle.row_cells.proofs.Totals.{total_same, zeros, total-zero}
 use Rattle.epoch_tags.specs.declared.tuple.Pair.{Pair}
 use Rattle.pair_collector.specs.Order.{InOrder}
 use Rattle.trace_law.specs.declared.input.Input.{Input}

@@ -1,6 +1,6 @@
 -- How the answers of groups are put together, one after the other.
 use Rattle.std.specs.Prelude.{◌≡◌, ℕ, List, [], ◌∷◌, ◌++◌, map, drop, sum_by}
-use Rattle.join_rows.specs.Lists.{total}
+use Rattle.row_cells.specs.Lists.{total}
 use Rattle.epoch_tags.specs.declared.tuple.Pair.{Pair}
 use Rattle.trace_law.specs.declared.input.Input.{Input}
 use Rattle.trace_law.specs.declared.setting.Setting.{Setting}

@@ -8,7 +8,7 @@ ghost use Rattle.group_split.specs.Parts.{IsPartOf, input_of_part, part};
 
 use crate::sizing::{group_of, push_if};
 use epoch_tags::Counts;
-use join_rows::{Bytes, Names, Rows, Table};
+use row_cells::{Bytes, Names, Rows, Table};
 use std::alloc::{AllocError, Global};
 use trace_law::Input;
 

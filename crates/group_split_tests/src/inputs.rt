@@ -1,7 +1,7 @@
 // The inputs of the tests, and their setting.
 
 use grid_map::Weights;
-use join_rows::{Bytes, Cell, Cells, Names, Rows, Table};
+use row_cells::{Bytes, Cell, Cells, Names, Rows, Table};
 use row_tickets::Feed;
 use std::alloc::{AllocError, Global};
 use theta_pred::{Theta, resolve};

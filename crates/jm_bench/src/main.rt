@@ -16,7 +16,7 @@ ghost use Rattle.store_parts.specs.Keyed.{IsOwn};
 ghost use Rattle.store_parts.specs.Stored.{HaveWidths};
 
 use epoch_tags::{Actor, Envelope, Msg, Pairs, ToController, Tuple};
-use join_rows::{Bytes, Cell, Cells, Items, Names, Side};
+use row_cells::{Bytes, Cell, Cells, Items, Names, Side};
 use ruled_links::{Actors, Inbox, Mouth, inbox};
 use std::alloc::{AllocError, Global};
 use std::sync::Wait;

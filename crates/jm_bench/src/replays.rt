@@ -3,8 +3,9 @@
 ghost use Rattle.std.specs.Prelude.{◌≤◌, ◌^◌};
 
 use grid_map::Weights;
-use join_rows::{Side, Table, make_table};
+use join_rows::make_table;
 use link_trace::{Input, Setting, replay};
+use row_cells::{Side, Table};
 use row_tickets::{Feed, tickets};
 use std::alloc::{AllocError, Global};
 use std::sync::Wait;

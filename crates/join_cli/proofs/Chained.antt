@@ -3,7 +3,7 @@ use Rattle.std.proofs.Common.{◌≡◌, ◌∙◌, ◌≤◌, ◌++◌, ◌^◌
 use Rattle.std.proofs.Common.{None, Some, refl, sym, ap, subst}
 use Rattle.std.specs.Prelude.{IfSome, is_some}
 use Rattle.std.proofs.lemmas.List.{length-map}
-use Rattle.join_rows.specs.declared.table.Side.TheVariants.{R}
+use Rattle.row_cells.specs.declared.table.Side.TheVariants.{R}
 use Rattle.trace_law.specs.declared.input.Input.{Input}
 use Rattle.trace_law.specs.declared.setting.Setting.{Setting}
 use Rattle.trace_law.specs.Join.{nested_loop, row_count}

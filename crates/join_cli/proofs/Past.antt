@@ -7,8 +7,8 @@ use Rattle.join_rows.specs.Records.{most_bytes, table_of}
 use Rattle.join_rows.specs.Shelves.{Spot, Told}
 use Rattle.join_rows.specs.declared.fault.TableFault.{TableFault}
 use Rattle.join_rows.specs.declared.fault.TableFault.TheVariants as files
-use Rattle.join_rows.specs.declared.table.Side.TheVariants.{R, S}
-use Rattle.join_rows.specs.declared.table.Table.{Table}
+use Rattle.row_cells.specs.declared.table.Side.TheVariants.{R, S}
+use Rattle.row_cells.specs.declared.table.Table.{Table}
 use Rattle.join_words.specs.Words.{Asked, AskedChain, chain_of, later_of}
 use Rattle.join_plan.specs.declared.fault.LimitFault.TheVariants.{TooLong}
 use Rattle.join_plan.specs.declared.fault.Refusal.{Refusal}

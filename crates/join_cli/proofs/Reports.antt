@@ -6,8 +6,8 @@ use Rattle.std.specs.List.{AllByRecursion}
 use Rattle.std.proofs.lemmas.List.Elements.{All-from_recursion}
 use Rattle.std.proofs.lemmas.List.FromFn.{length-map-range_with_len}
 use mathlib.Core.List.{reverse-reverse}
-use Rattle.join_rows.proofs.Everywhere.{all-reverse}
-use Rattle.join_rows.specs.declared.table.Side.TheVariants.{R, S}
+use Rattle.row_cells.proofs.Everywhere.{all-reverse}
+use Rattle.row_cells.specs.declared.table.Side.TheVariants.{R, S}
 use Rattle.load_controller.specs.declared.line.TurnLine.{TurnLine}
 use Rattle.pair_collector.specs.declared.collected.Held.{Held}
 use Rattle.load_controller.specs.Journal.{Fits, Follows, begun}
@@ -27,7 +27,7 @@ use Rattle.trace_law.proofs.Validity.{within_limits}
 use Rattle.join_report.specs.Report.{AreWithin, report_of}
 use Rattle.group_split.specs.Parts.{part}
 use Rattle.group_split.specs.Sizes.{digits, has_digit}
-use Rattle.join_rows.proofs.Totals.{filter_fewer}
+use Rattle.row_cells.proofs.Totals.{filter_fewer}
 use Rattle.group_split.proofs.Parted.{part_few, part_within}
 use Rattle.group_split.proofs.PartRuns.{valid_part, valid_setting}
 use Rattle.group_split.specs.Groups.{AreGroupsFrom}

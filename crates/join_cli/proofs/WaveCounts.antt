@@ -3,10 +3,10 @@ use Rattle.std.proofs.Common.{◌≡◌, ◌∙◌, ◌+◌, ◌*◌, ◌<◌, �
 use Rattle.std.proofs.Common.{◌∷◌}
 use Rattle.std.specs.Prelude.{map, reverse, sum_by}
 use Rattle.std.proofs.lemmas.List.{length-take-le, reverse-append, reverse-reverse}
-use Rattle.join_rows.specs.declared.table.Side.TheVariants.{R, S}
-use Rattle.join_rows.specs.Lists.{total}
-use Rattle.join_rows.proofs.Bags.{sum_of_map}
-use Rattle.join_rows.proofs.Totals.{total_same}
+use Rattle.row_cells.specs.declared.table.Side.TheVariants.{R, S}
+use Rattle.row_cells.specs.Lists.{total}
+use Rattle.row_cells.proofs.Bags.{sum_of_map}
+use Rattle.row_cells.proofs.Totals.{total_same}
 use Rattle.load_controller.specs.declared.line.TurnLine.{TurnLine}
 use Rattle.load_controller.specs.Journal.{Follows, begun, causes_of, counted_r, counted_s, last_epoch, last_line}
 use Rattle.load_controller.proofs.Bound.{last_line_is}

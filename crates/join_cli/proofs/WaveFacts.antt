@@ -7,8 +7,8 @@ use Rattle.std.specs.List.{AllByRecursion}
 use Rattle.std.proofs.lemmas.List.Elements.{All-from_recursion}
 use Rattle.std.proofs.lemmas.List.FromFn.{length-map-range_with_len}
 use mathlib.Core.List.{reverse-reverse}
-use Rattle.join_rows.proofs.Everywhere.{all-append, all-reverse}
-use Rattle.join_rows.specs.declared.table.Side.TheVariants.{R, S}
+use Rattle.row_cells.proofs.Everywhere.{all-append, all-reverse}
+use Rattle.row_cells.specs.declared.table.Side.TheVariants.{R, S}
 use Rattle.load_controller.specs.declared.line.TurnLine.{TurnLine}
 use Rattle.load_controller.specs.Journal.{Fits, Follows, begun, last_line}
 use Rattle.load_controller.proofs.Bound.{shifts_within}

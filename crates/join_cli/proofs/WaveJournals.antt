@@ -3,7 +3,7 @@ use Rattle.std.proofs.Common.{◌≡◌, ◌∙◌, ◌<◌, ℕ, Bool, true, fa
 use Rattle.std.specs.Prelude.{⊤, flat_map, reverse}
 use Rattle.std.specs.List.{AllByRecursion}
 use Rattle.std.proofs.lemmas.List.{reverse-append, reverse-reverse}
-use Rattle.join_rows.proofs.Everywhere.{all-append}
+use Rattle.row_cells.proofs.Everywhere.{all-append}
 use Rattle.load_controller.specs.declared.line.Cause.{Cause}
 use Rattle.load_controller.specs.declared.line.Cause.TheVariants.{Count, Drain, Settle, Start, Wave}
 use Rattle.load_controller.specs.declared.line.TurnLine.{TurnLine}

@@ -5,7 +5,7 @@ use Rattle.std.specs.Fmt.{digits}
 use Rattle.std.specs.Str.{bytes_eq}
 use Rattle.csv.specs.Reading.{records_from}
 use Rattle.csv.specs.Machine.{next_record}
-use Rattle.join_rows.specs.declared.table.Side.TheVariants as sides
+use Rattle.row_cells.specs.declared.table.Side.TheVariants as sides
 use Rattle.join_rows.specs.Records.{after_marks, table_of, table_of_records, fault_of_rows}
 use Rattle.theta_tree.specs.Grammar.{Tree, txt}
 use Rattle.theta_tree.specs.declared.tree.Op.TheVariants.{Eq}

@@ -1,7 +1,7 @@
 -- A run of several waves in which the joiners split into four behind one of them, and its output.
 use Rattle.std.specs.Prelude.{◌≡◌, ◌++◌, ◌+◌, ℕ, Bool, List, [], Option, None, drop, flat_map, if◌then◌else◌}
 use Rattle.std.specs.Prelude.{take}
-use Rattle.join_rows.specs.declared.table.Side.TheVariants.{R, S}
+use Rattle.row_cells.specs.declared.table.Side.TheVariants.{R, S}
 use Rattle.grid_map.specs.declared.shape.Shape.{Shape}
 use Rattle.grid_map.specs.Load.{copies}
 use Rattle.load_controller.specs.declared.line.TurnLine.{TurnLine}

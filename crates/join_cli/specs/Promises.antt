@@ -3,7 +3,7 @@ use Rattle.std.specs.Prelude.{◌≡◌, ◌≢◌, ◌⊎◌, ◌<◌, ℕ, Lis
 use Rattle.join_rows.specs.Sinks.{PutsSome}
 use Rattle.join_rows.specs.declared.shelf.Shelf.{Ghosts as ShelfGhosts}
 use Rattle.join_rows.specs.declared.sink.Sink.{Ghosts as SinkGhosts}
-use Rattle.join_rows.specs.declared.table.Side.{Side}
+use Rattle.row_cells.specs.declared.table.Side.{Side}
 use Rattle.theta_tree.specs.Grammar.{Tree}
 use Rattle.theta_tree.specs.declared.fault.PredFault.{PredFault}
 use Rattle.theta_tree.specs.Texts.{IsFaultOf, TextReads, limits}

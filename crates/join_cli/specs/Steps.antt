@@ -2,7 +2,7 @@
 use Rattle.std.specs.Prelude.{◌≡◌, ◌≢◌, ◌⊎◌, ◌<◌, ◌≤◌, ◌+◌, ◌^◌, ℕ, Bool, List, false, length, Option, None, Some}
 use Rattle.std.specs.Prelude.{Result, Ok, Err, IfOk, IfSome, OnOk, is_some}
 use Rattle.std.specs.Io.KnownBytes.{append_known}
-use Rattle.join_rows.specs.declared.table.Side.TheVariants.{R, S}
+use Rattle.row_cells.specs.declared.table.Side.TheVariants.{R, S}
 use Rattle.join_rows.specs.Sinks.{AppendsFront, PutsSome}
 use Rattle.join_rows.specs.declared.sink.Sink.{Ghosts as SinkGhosts}
 use Rattle.trace_law.specs.Join.{row_count}

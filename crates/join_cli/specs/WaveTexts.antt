@@ -2,7 +2,7 @@
 use Rattle.std.specs.Prelude.{◌++◌, ◌^◌, ◌+◌, ℕ, Bool, true, false, List, [], ◌∷◌, map, replicate}
 use Rattle.std.specs.List.{range_with_len}
 use Rattle.std.specs.Simd.Lanes.{zip2}
-use Rattle.join_rows.specs.declared.table.Side.TheVariants.{R, S}
+use Rattle.row_cells.specs.declared.table.Side.TheVariants.{R, S}
 use Rattle.epoch_tags.specs.declared.tuple.Pair.{Pair}
 use Rattle.load_controller.specs.declared.line.TurnLine.{TurnLine}
 use Rattle.load_controller.specs.Journal.{last_line}

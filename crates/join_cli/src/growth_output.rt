@@ -1,7 +1,7 @@
 // The output of a run of several waves with a growth.
 
 ghost use Rattle.std.specs.Prelude.{◌≡◌, ◌++◌, IfOk, OnOk, Some};
-ghost use Rattle.join_rows.specs.declared.table.Side.TheVariants.{R as R', S as S'};
+ghost use Rattle.row_cells.specs.declared.table.Side.TheVariants.{R as R', S as S'};
 ghost use Rattle.trace_law.specs.Join.{row_count};
 ghost use Rattle.join_words.specs.Words.{asked};
 ghost use Rattle.join_cli.specs.Courses.{by_run};
@@ -24,9 +24,9 @@ use crate::work::Work;
 use grid_map::{Shape, Weights, copies};
 use join_plan::WaveEnd;
 use join_report::{GrownRun, grown_report_text};
-use join_rows::Bytes;
 use join_words::Options;
 use load_controller::TurnLine;
+use row_cells::Bytes;
 use std::alloc::{AllocError, Global};
 use std::sync::Wait;
 use std::thread::Threads;

@@ -4,13 +4,13 @@ ghost use Rattle.std.specs.Prelude.{◌≡◌, ◌<◌, ◌^◌, All, IfOk};
 ghost use Rattle.trace_law.specs.Validity.{IsValidInput, IsValidSetting};
 ghost use Rattle.join_words.specs.Words.{asked};
 ghost use Rattle.chain_join.specs.Chains.{tickets_of};
-ghost use Rattle.join_rows.specs.declared.table.Side.TheVariants.{R as R', S as S'};
+ghost use Rattle.row_cells.specs.declared.table.Side.TheVariants.{R as R', S as S'};
 ghost use Rattle.join_cli.specs.Plan.{FitTables, input_with, setting_of};
 
 use join_plan::Tables;
-use join_rows::{Bytes, Side, Table};
 use join_words::Options;
 use link_trace::{Input, Setting};
+use row_cells::{Bytes, Side, Table};
 use row_tickets::tickets;
 use std::alloc::{AllocError, Global};
 use theta_pred::Theta;

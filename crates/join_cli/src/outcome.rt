@@ -4,11 +4,11 @@ ghost use Rattle.std.specs.Prelude.{◌≡◌};
 ghost use Rattle.join_cli.specs.Outcomes.{outcome_of};
 
 use join_plan::{InputFault, LimitFault, Refusal, TextFault};
-use join_rows::Items;
 use join_runtime::Trail;
 use join_words::WordsFault;
 use load_controller::Journal;
 use ring_runtime::RingEnds;
+use row_cells::Items;
 
 /// The journals of several runs.
 pub type Journals = Items<Journal>;

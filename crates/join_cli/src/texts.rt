@@ -10,10 +10,10 @@ ghost use Rattle.join_cli.specs.Works.{IsWholeRun};
 use crate::work::Work;
 use epoch_tags::Pair;
 use join_report::{pairs_text, report_text, rows_text, summary_text};
-use join_rows::Bytes;
 use join_words::Options;
 use link_trace::Run;
 use load_controller::Journal;
+use row_cells::Bytes;
 use std::alloc::{AllocError, Global};
 
 /// The journal of a run.

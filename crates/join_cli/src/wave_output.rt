@@ -1,7 +1,7 @@
 // The output of a run of several waves.
 
 ghost use Rattle.std.specs.Prelude.{◌≡◌, ◌++◌, IfOk, OnOk, None};
-ghost use Rattle.join_rows.specs.declared.table.Side.TheVariants.{R as R', S as S'};
+ghost use Rattle.row_cells.specs.declared.table.Side.TheVariants.{R as R', S as S'};
 ghost use Rattle.trace_law.specs.Join.{row_count};
 ghost use Rattle.join_words.specs.Words.{asked};
 ghost use Rattle.join_cli.specs.Kinds.{AreSeveralWaves};
@@ -19,9 +19,9 @@ use crate::work::Work;
 use epoch_tags::Pair;
 use join_plan::WaveEnd;
 use join_report::{pairs_text, rows_text};
-use join_rows::Bytes;
 use join_words::Options;
 use link_trace::{Input, Run};
+use row_cells::Bytes;
 use std::alloc::{AllocError, Global};
 use std::sync::Wait;
 use std::thread::Threads;

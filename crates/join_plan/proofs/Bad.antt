@@ -4,9 +4,9 @@ use Rattle.std.proofs.Common.{◌∙◌, ap, Option, Some, None, arith}
 use Rattle.std.specs.List.{slice_get}
 use Rattle.std.specs.Option.{unwrap_or}
 use Rattle.std.proofs.lemmas.Option.{none-some}
-use Rattle.join_rows.specs.declared.table.Cell.{Cell}
-use Rattle.join_rows.specs.Columns.{IsBad, IsFirstBad, is_bad}
-use Rattle.join_rows.specs.declared.table.Side.{Side}
+use Rattle.row_cells.specs.declared.table.Cell.{Cell}
+use Rattle.row_cells.specs.Columns.{IsBad, IsFirstBad, is_bad}
+use Rattle.row_cells.specs.declared.table.Side.{Side}
 use Rattle.join_plan.specs.declared.fault.InputFault.TheVariants.{Number}
 use Rattle.join_plan.specs.declared.fault.InputFault.{InputFault}
 use Rattle.join_plan.specs.declared.places.Place.{Place}

@@ -8,8 +8,9 @@ use Rattle.std.proofs.Math.Bool.{true≢false}
 use Rattle.std.proofs.lemmas.List.Elements.{All-append}
 use Rattle.std.proofs.lemmas.List.{length-append}
 use Rattle.std.specs.Prelude.{◌++◌, ◌≤◌, All}
-use Rattle.join_rows.specs.Records.{HasItsNumber, IsTable, most_rows}
-use Rattle.join_rows.specs.declared.table.Table.{Table}
+use Rattle.row_cells.specs.Cells.{HasItsNumber}
+use Rattle.join_rows.specs.Records.{IsTable, most_rows}
+use Rattle.row_cells.specs.declared.table.Table.{Table}
 use Rattle.join_plan.specs.Headers.{same_names}
 
 -- a test whose opposite holds fails

@@ -6,7 +6,7 @@ use Rattle.std.specs.Prelude.{IfOk, IfSome, MatchResult}
 use Rattle.std.proofs.lemmas.List.{length-map, take_all}
 use Rattle.std.proofs.lemmas.List.Elements.{Contains-append_left, Contains-append_right}
 use Rattle.join_rows.specs.Shelves.{Spot, Told}
-use Rattle.join_rows.specs.declared.table.Table.{Table}
+use Rattle.row_cells.specs.declared.table.Table.{Table}
 use Rattle.join_words.specs.Words.{Asked, AskedWave, asked_wave, chain_of, later_of}
 use Rattle.join_words.specs.declared.kind.Wave.{Wave}
 use Rattle.join_plan.specs.declared.fault.Refusal.{Refusal}

@@ -7,7 +7,7 @@ use Rattle.join_rows.specs.Records.{table_of}
 use Rattle.join_rows.specs.Shelves.{Lacks, Spot, Tells, Told}
 use Rattle.join_rows.specs.declared.fault.TableFault.{TableFault}
 use Rattle.join_rows.specs.declared.fault.TableFault.TheVariants as files
-use Rattle.join_rows.specs.declared.table.Table.{Table}
+use Rattle.row_cells.specs.declared.table.Table.{Table}
 use Rattle.join_words.specs.Words.{Asked}
 use Rattle.join_plan.specs.declared.fault.Refusal.{Refusal}
 use Rattle.join_plan.specs.declared.fault.Refusal.TheVariants as refusals

@@ -6,7 +6,7 @@ use Rattle.std.specs.List.{AllPairs, Contains, list_any, range_with_len, slice_i
 use Rattle.std.proofs.lemmas.Bool.{cases_eq, eq-eqb, eqb-true}
 use Rattle.std.proofs.lemmas.List.Elements.{All-contains}
 use Rattle.std.proofs.lemmas.List.Kept.{AllPairs-from_increasing}
-use Rattle.join_rows.specs.declared.table.Side.{Side}
+use Rattle.row_cells.specs.declared.table.Side.{Side}
 use Rattle.theta_pred.specs.Formula.{Meaning}
 use Rattle.theta_pred.specs.Numeric.{AreNumeric, sum_places}
 use Rattle.theta_pred.specs.Truth.{width_of}

@@ -1,7 +1,7 @@
 -- Why nothing is joined.
 use Rattle.std.specs.Prelude.{◌≡◌, ◌⊎◌, ◌≤◌, ◌<◌, ◌+◌, ◌^◌, ℕ, ⊤, List, IsSomeAnd, is_some, true, Option, None, Some}
 use Rattle.std.specs.List.{Contains}
-use Rattle.join_rows.specs.declared.table.Side.{Side}
+use Rattle.row_cells.specs.declared.table.Side.{Side}
 use Rattle.join_rows.specs.Shelves.{Told, Lacks, Spot}
 use Rattle.join_words.specs.Words.{Asked, AskedChain, chain_of}
 use Rattle.join_plan.specs.declared.fault.Refusal.{Refusal}

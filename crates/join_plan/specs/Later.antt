@@ -1,8 +1,8 @@
 -- The files of the later waves, whose rows stand behind those of the first, and all that is gathered.
 use Rattle.std.specs.Prelude.{◌++◌, ◌+◌, ℕ, Bool, true, false, List, [], ◌∷◌, length, nat_lt, Option, Result, Ok, Err}
-use Rattle.join_rows.specs.declared.table.Side.{Side}
-use Rattle.join_rows.specs.declared.table.Side.TheVariants.{R, S}
-use Rattle.join_rows.specs.declared.table.Table.{Table}
+use Rattle.row_cells.specs.declared.table.Side.{Side}
+use Rattle.row_cells.specs.declared.table.Side.TheVariants.{R, S}
+use Rattle.row_cells.specs.declared.table.Table.{Table}
 use Rattle.join_rows.specs.Records.{most_rows}
 use Rattle.join_words.specs.Words.{Asked, chain_of, later_of}
 use Rattle.join_plan.specs.declared.fault.Refusal.{Refusal}

@@ -1,6 +1,6 @@
 -- A row of a side in the file that it comes from.
 use Rattle.std.specs.Prelude.{◌+◌, ◌-◌, ℕ, List, [], ◌∷◌, if◌then◌else◌, nat_le}
-use Rattle.join_rows.specs.declared.table.Side.{Side}
+use Rattle.row_cells.specs.declared.table.Side.{Side}
 use Rattle.join_plan.specs.declared.places.Place.{Place}
 use Rattle.join_plan.specs.declared.waves.WaveEnd.{WaveEnd}
 use Rattle.join_plan.specs.Waves.{rows_upto}

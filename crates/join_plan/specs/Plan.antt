@@ -1,6 +1,6 @@
 -- What the words and the files come to, in the order in which they are looked at.
 use Rattle.std.specs.Prelude.{◌≡◌, ◌+◌, ℕ, List, [], ◌∷◌, length, Option, None, Some, Result, Ok, Err, IfSome, is_some}
-use Rattle.join_rows.specs.declared.table.Table.{Table}
+use Rattle.row_cells.specs.declared.table.Table.{Table}
 use Rattle.join_rows.specs.Records.{IsTable}
 use Rattle.join_rows.specs.Shelves.{Told}
 use Rattle.joined_rows.specs.Joined.{joined_names}

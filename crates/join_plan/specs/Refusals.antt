@@ -1,6 +1,6 @@
 -- Each fault as the refusal that tells it.
 use Rattle.std.specs.Prelude.{ℕ, Result, Ok, Err}
-use Rattle.join_rows.specs.declared.table.Side.{Side}
+use Rattle.row_cells.specs.declared.table.Side.{Side}
 use Rattle.join_rows.specs.declared.fault.TableFault.{TableFault}
 use Rattle.join_rows.specs.declared.fault.TableFault.TheVariants as files
 use Rattle.theta_tree.specs.declared.fault.PredFault.{PredFault}

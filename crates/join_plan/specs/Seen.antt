@@ -3,8 +3,8 @@ use Rattle.std.specs.Prelude.{◌≡◌, ◌^◌, ◌+◌, ℕ, List, [], ◌∷
 use Rattle.std.specs.Prelude.{MatchResult}
 use Rattle.join_rows.specs.Records.{table_of}
 use Rattle.join_rows.specs.Shelves.{Spot, Tells, Told}
-use Rattle.join_rows.specs.declared.table.Side.TheVariants.{S}
-use Rattle.join_rows.specs.declared.table.Table.{Table}
+use Rattle.row_cells.specs.declared.table.Side.TheVariants.{S}
+use Rattle.row_cells.specs.declared.table.Table.{Table}
 use Rattle.join_words.specs.Words.{Asked, AskedChain, chain_of, later_of}
 use Rattle.join_plan.specs.declared.fault.Refusal.{Refusal}
 use Rattle.join_plan.specs.declared.files.Gathered.{Gathered}

@@ -11,8 +11,9 @@ use crate::fault::Refusal;
 use crate::files::Tables;
 use crate::reading::{File, bytes_of, table, table_bytes};
 use crate::refusal_of_fault::file_refused;
-use join_rows::{Made, Shelf, Side, both_tables};
+use join_rows::{Made, Shelf, both_tables};
 use join_words::Options;
+use row_cells::Side;
 use std::alloc::Global;
 use std::thread::Threads;
 

@@ -10,7 +10,7 @@ ghost use Rattle.join_plan.specs.Columns.{theta_over};
 
 use crate::fault::Refusal;
 use crate::refusal_of_fault::{Which, columns_refused};
-use join_rows::Names;
+use row_cells::Names;
 use std::alloc::Global;
 use theta_pred::{Theta, resolve};
 use theta_tree::Pred;

@@ -18,7 +18,7 @@ use crate::headers::same_names;
 use crate::reading::File;
 use crate::rows::appended;
 use crate::waves::{InWaves, WaveEnds, end_of};
-use join_rows::{Side, Table};
+use row_cells::{Side, Table};
 use std::alloc::AllocError;
 
 // How many rows a side may have in all.

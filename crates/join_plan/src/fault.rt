@@ -1,6 +1,6 @@
 // What is told where nothing is joined.
 
-use join_rows::{Bytes, Side};
+use row_cells::{Bytes, Side};
 
 /// What is wrong with a predicate. A place is the offset of a byte in its text, counted from 0.
 #[derive(Debug, Drop)]

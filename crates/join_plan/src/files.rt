@@ -17,8 +17,9 @@ use crate::fault::Refusal;
 use crate::later::read_later;
 use crate::reading::third_table;
 use crate::waves::{InWaves, WaveEnds, first_wave};
-use join_rows::{Shelf, Side, Table, make_table};
+use join_rows::{Shelf, make_table};
 use join_words::Options;
+use row_cells::{Side, Table};
 use std::alloc::{AllocError, Global};
 use std::thread::Threads;
 

@@ -3,7 +3,7 @@
 ghost use Rattle.std.specs.Prelude.{◌≡◌};
 ghost use Rattle.join_plan.specs.Headers;
 
-use join_rows::Bytes;
+use row_cells::Bytes;
 
 /// Whether two headers have the same names.
 pub(crate) fn same_names(one: &[Bytes], other: &[Bytes]) -> bool

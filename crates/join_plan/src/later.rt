@@ -16,8 +16,9 @@ use crate::continued::with_more;
 use crate::fault::Refusal;
 use crate::reading::{File, table};
 use crate::waves::InWaves;
-use join_rows::{Shelf, Side};
+use join_rows::Shelf;
 use join_words::Wave;
+use row_cells::Side;
 use std::alloc::Global;
 
 /// The waves with the rows of the next file, or the refusal of it.

@@ -2,7 +2,7 @@
 
 ghost use Rattle.std.specs.Prelude.{◌≡◌, ◌<◌, ◌≤◌, ◌+◌, All, length};
 ghost use Rattle.join_rows.specs.Records.{IsTable};
-ghost use Rattle.join_rows.specs.declared.table.Side.{Side};
+ghost use Rattle.row_cells.specs.declared.table.Side.{Side};
 ghost use Rattle.join_plan.specs.Numbers;
 ghost use Rattle.join_plan.specs.Plan.{IsFit, IsThirdFit};
 
@@ -11,7 +11,7 @@ use crate::files::Tables;
 use crate::fitting::{Planned, Third};
 use crate::places::located;
 use crate::waves::WaveEnd;
-use join_rows::{Side, Table};
+use row_cells::{Side, Table};
 use theta_pred::Theta;
 
 /// The first row of the column that has a cell which isn't empty and is no number, in the file that it comes from. The

@@ -4,7 +4,7 @@ ghost use Rattle.std.specs.Prelude.{◌≡◌, ◌≤◌, ◌+◌, length};
 ghost use Rattle.join_plan.specs.Located;
 
 use crate::waves::{WaveEnd, rows_upto};
-use join_rows::Side;
+use row_cells::Side;
 
 /// A row in its file, counted from 1, and the wave of that file.
 #[derive(Clone, Copy, Debug, PartialEq, Eq)]

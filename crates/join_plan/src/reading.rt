@@ -4,7 +4,7 @@ ghost use Rattle.std.specs.Prelude.{◌≡◌, ◌⊎◌, ◌<◌, ◌≤◌, �
 ghost use Rattle.std.specs.Prelude.{IfErr, IfOk, IfSome, is_some};
 ghost use Rattle.join_rows.specs.Shelves.{last_fault};
 ghost use Rattle.join_rows.specs.Records.{IsTable, table_of};
-ghost use Rattle.join_rows.specs.declared.table.Table.{Table};
+ghost use Rattle.row_cells.specs.declared.table.Table.{Table};
 ghost use Rattle.join_words.specs.Words.{Asked, asked, chain_of};
 ghost use Rattle.join_plan.specs.Causes.{IsSourceOf, Refuses};
 ghost use Rattle.join_plan.specs.Files.{bytes_found, source_of, table_found, third_by};
@@ -12,8 +12,9 @@ ghost use Rattle.join_plan.specs.Seen.{IsSeen, ThirdSeen};
 
 use crate::fault::Refusal;
 use crate::refusal_of_fault::file_refused;
-use join_rows::{Bytes, Shelf, Side, Table, judge, read_bytes, read_table};
+use join_rows::{Shelf, judge, read_bytes, read_table};
 use join_words::Options;
+use row_cells::{Bytes, Side, Table};
 use std::alloc::Global;
 
 /// A file: that of a side in a wave.

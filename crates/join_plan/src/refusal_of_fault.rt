@@ -4,7 +4,8 @@ ghost use Rattle.std.specs.Prelude.{◌≡◌};
 ghost use Rattle.join_plan.specs.Refusals.{column_refusal, file_refusal, text_refusal, told_by};
 
 use crate::fault::{InputFault, LimitFault, Refusal, TextFault};
-use join_rows::{Side, TableFault};
+use join_rows::TableFault;
+use row_cells::Side;
 use theta_pred::ResolveFault;
 use theta_tree::PredFault;
 

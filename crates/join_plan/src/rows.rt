@@ -2,7 +2,7 @@
 
 ghost use Rattle.std.specs.Prelude.{◌≡◌, ◌++◌, IfOk};
 
-use join_rows::Rows;
+use row_cells::Rows;
 use std::alloc::AllocError;
 
 /// The rows of one list behind those of another.

@@ -5,7 +5,7 @@ ghost use Rattle.join_plan.specs.Lines.{cell_line, count_line, file_line, input_
 ghost use Rattle.join_plan.specs.Lines.{name_line, row_line, side_line, text_line};
 
 use crate::fault::{InputFault, LimitFault, TextFault};
-use join_rows::{Bytes, Side};
+use row_cells::{Bytes, Side};
 use std::{fmt, str};
 
 #[tactic(auto, using(crate::proofs::Lines::name_told, crate::proofs::Lines::name_untold))]

@@ -5,7 +5,7 @@ ghost use Rattle.join_plan.specs.Waves;
 ghost use Rattle.join_plan.specs.Waves.{AreEnds, rows_upto as rows_upto'};
 
 use crate::files::Tables;
-use join_rows::{Items, Side};
+use row_cells::{Items, Side};
 use std::alloc::{AllocError, Global};
 
 /// How many rows of each side there are up to a wave's end.

@@ -3,7 +3,7 @@ use Rattle.std.proofs.Common.{◌≡◌, ◌∙◌, ◌<◌, ◌+◌, ℕ, List,
 use Rattle.std.proofs.lemmas.List.{append-nil, take_more}
 use Rattle.std.proofs.lemmas.Grind.{flat_map-append}
 use Rattle.epoch_tags.specs.declared.tuple.Pair.{Pair}
-use Rattle.join_rows.specs.declared.table.Cell.{Cell}
+use Rattle.row_cells.specs.declared.table.Cell.{Cell}
 use Rattle.join_report.specs.RowLines.{row_line, row_lines}
 
 -- the records of one pair more are those of the pairs before it and then its own

@@ -9,7 +9,7 @@ use Rattle.csv.specs.Writing.{default_writer, is_blank, read_back, row_body}
 use Rattle.csv.specs.declared.parser.State.TheVariants as st
 use Rattle.csv.proofs.RoundTrip.{read-write}
 use Rattle.epoch_tags.specs.declared.tuple.Pair.{Pair}
-use Rattle.join_rows.specs.declared.table.Cell.{Cell}
+use Rattle.row_cells.specs.declared.table.Cell.{Cell}
 use Rattle.join_report.specs.RowLines.{joined_fields, row_line, row_lines}
 
 -- what was known to be written is kept

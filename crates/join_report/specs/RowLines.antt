@@ -3,7 +3,7 @@ use Rattle.std.specs.Prelude.{ℕ, List, [], ◌++◌, map, flat_map}
 use Rattle.std.specs.List.{slice_index_or}
 use Rattle.csv.specs.Writing.{default_writer, row_text}
 use Rattle.epoch_tags.specs.declared.tuple.Pair.{Pair}
-use Rattle.join_rows.specs.declared.table.Cell.{Cell}
+use Rattle.row_cells.specs.declared.table.Cell.{Cell}
 
 -- the texts of the cells of a row
 abbrev pub texts_of : List Cell → List (List ℕ)

@@ -8,7 +8,7 @@ ghost use Rattle.join_report.specs.Writers.{HasWritten};
 
 use csv::{Writer, WriterBuilder};
 use epoch_tags::Pair;
-use join_rows::{Bytes, Cell, Rows};
+use row_cells::{Bytes, Cell, Rows};
 use std::alloc::{AllocError, Global};
 
 /// The cells of the row at a place, none where there is no such row.

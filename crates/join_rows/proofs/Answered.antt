@@ -5,7 +5,7 @@ use Rattle.std.specs.Prelude.{nat_lt, ⊤, ◌==◌}
 use Rattle.join_rows.specs.Reads.{WholeErr, WholeOk}
 use Rattle.join_rows.specs.Records.{fault_of_rows, records_of, table_of, table_of_records}
 use Rattle.join_rows.specs.Shelves.{Lacks, Spot, Tells, Told}
-use Rattle.join_rows.specs.declared.table.Table.{Table}
+use Rattle.row_cells.specs.declared.table.Table.{Table}
 use Rattle.join_rows.specs.declared.fault.TableFault.{TableFault}
 use Rattle.join_rows.specs.declared.fault.TableFault.TheVariants as fault
 

@@ -4,9 +4,10 @@ use Rattle.std.proofs.Common.{Err, length-append}
 use Rattle.csv.specs.Reading.{Reached, default_config, records}
 use Rattle.csv.specs.declared.parser.State.{State}
 use Rattle.csv.specs.declared.parser.State.TheVariants as st
-use Rattle.join_rows.specs.Records.{AreWide, cells_of, table_of_records}
+use Rattle.row_cells.specs.Cells.{AreWide, cells_of}
+use Rattle.join_rows.specs.Records.{table_of_records}
 use Rattle.join_rows.specs.declared.fault.TableFault.TheVariants as fault
-use Rattle.join_rows.specs.declared.table.Table.{Table}
+use Rattle.row_cells.specs.declared.table.Table.{Table}
 use Rattle.join_rows.proofs.Counted.{records-begin}
 use Rattle.join_rows.proofs.Tables.{answers-good, answers-long, answers-narrow, wide-more}
 

@@ -4,10 +4,11 @@ use Rattle.std.specs.Prelude.{All}
 use Rattle.std.specs.List.{range_with_len}
 use Rattle.std.proofs.lemmas.List.Elements.{All-map}
 use Rattle.std.proofs.lemmas.List.FromFn.{length-map-range_with_len}
-use Rattle.join_rows.specs.declared.table.Cell.{Cell}
-use Rattle.join_rows.specs.declared.table.Side.{Side}
+use Rattle.row_cells.specs.declared.table.Cell.{Cell}
+use Rattle.row_cells.specs.declared.table.Side.{Side}
 use Rattle.join_rows.specs.Made.{made_fields, made_names, made_table}
-use Rattle.join_rows.specs.Records.{HasItsNumber, IsTable, cells_of}
+use Rattle.row_cells.specs.Cells.{HasItsNumber, cells_of}
+use Rattle.join_rows.specs.Records.{IsTable}
 use Rattle.join_rows.proofs.Shapes.{cells_numbers}
 
 -- of up to 2^16 rows it is: named, of one width, within the limit, with the number of each cell's text

@@ -5,7 +5,7 @@ use Rattle.std.proofs.lemmas.List.{take_all}
 use Rattle.join_rows.specs.Reads.{IsOfBytes, WholeErr, WholeOk}
 use Rattle.join_rows.specs.Records.{AnswerSays}
 use Rattle.join_rows.specs.Shelves.{Spot, Told}
-use Rattle.join_rows.specs.declared.table.Table.{Table}
+use Rattle.row_cells.specs.declared.table.Table.{Table}
 use Rattle.join_rows.specs.declared.fault.TableFault.{TableFault}
 use Rattle.join_rows.specs.declared.fault.TableFault.TheVariants as fault
 use Rattle.join_rows.proofs.Answered.{TableIn, long-table, refused, short-table}

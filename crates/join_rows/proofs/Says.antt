@@ -2,7 +2,8 @@
 use Rattle.std.proofs.Common.{◌≡◌, ◌≢◌, ◌≤◌, ◌<◌, ◌+◌, ◌-◌, ◌∙◌, ℕ, suc, Bool, true, false, List, [], ◌∷◌, ◌++◌, length}
 use Rattle.std.proofs.Common.{take, arith, refl, ap, subst, Option, Err, None, Some, add-zero}
 use Rattle.std.specs.Prelude.{◌==◌, nat_lt}
-use Rattle.join_rows.specs.Records.{AnswerSays, AreWide, SaysOf, SaysOfRecords, fault_of_rows, most_bytes, most_rows}
+use Rattle.row_cells.specs.Cells.{AreWide}
+use Rattle.join_rows.specs.Records.{AnswerSays, SaysOf, SaysOfRecords, fault_of_rows, most_bytes, most_rows}
 use Rattle.join_rows.specs.Records.{records_of, table_of, table_of_records}
 use Rattle.join_rows.proofs.Answered.{long-table, short-table}
 use Rattle.join_rows.proofs.Shapes.{none_wide}

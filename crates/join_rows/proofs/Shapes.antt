@@ -10,10 +10,11 @@ use Rattle.csv.specs.declared.parser.Action.{Action}
 use Rattle.csv.specs.declared.parser.Action.TheVariants as act
 use Rattle.csv.specs.declared.parser.State.{State}
 use Rattle.csv.specs.declared.parser.State.TheVariants as st
-use Rattle.join_rows.specs.declared.table.Table.{Table}
-use Rattle.join_rows.specs.Records.{AreWide, HasItsNumber, IsTable, cell_of, cells_of, fault_of_rows, most_rows}
+use Rattle.row_cells.specs.declared.table.Table.{Table}
+use Rattle.row_cells.specs.Cells.{AreWide, HasItsNumber, cell_of, cells_of}
+use Rattle.join_rows.specs.Records.{IsTable, fault_of_rows, most_rows}
 use Rattle.join_rows.specs.Records.{records_of, table_of_records}
-use Rattle.join_rows.proofs.Numbers.{number_of-writes, number_of-written}
+use Rattle.row_cells.proofs.Numbers.{number_of-writes, number_of-written}
 use Rattle.join_rows.specs.declared.fault.TableFault.{TableFault}
 use Rattle.join_rows.specs.declared.fault.TableFault.TheVariants as fault
 

@@ -3,8 +3,9 @@ use Rattle.std.proofs.Common.{◌≡◌, ◌≢◌, ◌≤◌, ◌<◌, ◌+◌,
 use Rattle.std.proofs.Common.{refl, sym, ap, Ok, Err, None, Some, add-zero}
 use Rattle.std.specs.Prelude.{◌==◌, nat_lt}
 use Rattle.std.proofs.lemmas.List.{append-nil, append_assoc}
-use Rattle.join_rows.specs.declared.table.Cell.{Cell}
-use Rattle.join_rows.specs.Records.{AreWide, cells_of, fault_of_rows, most_rows, table_of_records}
+use Rattle.row_cells.specs.declared.table.Cell.{Cell}
+use Rattle.row_cells.specs.Cells.{AreWide, cells_of}
+use Rattle.join_rows.specs.Records.{fault_of_rows, most_rows, table_of_records}
 use Rattle.join_rows.specs.declared.fault.TableFault.TheVariants as fault
 
 -- rows of the width, and within the limit, are passed over

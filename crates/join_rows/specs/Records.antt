@@ -1,11 +1,9 @@
 -- The table that the bytes of a file are, and what is wrong where they are none.
-use Rattle.std.specs.Prelude.{◌≡◌, ◌≢◌, ◌≤◌, ◌<◌, ◌+◌, ◌^◌, ◌==◌, ◌++◌, ◌↔◌, refl, Bool, false, ℕ, ℤ, List, [], ◌∷◌}
+use Rattle.std.specs.Prelude.{◌≡◌, ◌≢◌, ◌≤◌, ◌<◌, ◌+◌, ◌^◌, ◌==◌, ◌++◌, Bool, false, ℕ, List, [], ◌∷◌}
 use Rattle.std.specs.Prelude.{if◌then◌else◌, length, map, take, nat_lt, Option, None, Some, Result, Ok, Err, All}
-use Rattle.std.specs.List.{AllByRecursion}
 use Rattle.csv.specs.Reading.{default_config, is_bom, records}
-use Rattle.join_rows.specs.Numbers.{IsNumber, number_of}
-use Rattle.join_rows.specs.declared.table.Cell.{Cell}
-use Rattle.join_rows.specs.declared.table.Table.{Table}
+use Rattle.row_cells.specs.Cells.{AreWide, HasItsNumber, cells_of}
+use Rattle.row_cells.specs.declared.table.Table.{Table}
 use Rattle.join_rows.specs.declared.fault.TableFault.{TableFault}
 use Rattle.join_rows.specs.declared.fault.TableFault.TheVariants as fault
 
@@ -27,18 +25,6 @@ after_marks (a ∷ b ∷ c ∷ rest) = if is_bom a b c then after_marks rest els
 abbrev pub records_of : List ℕ → List (List (List ℕ))
 records_of bytes = records default_config (after_marks bytes)
 
--- the cell of a text
-abbrev pub cell_of : List ℕ → Cell
-cell_of text = record { text = text; num = number_of text; own = refl }
-
--- the row of these fields
-abbrev pub cells_of : List (List ℕ) → List Cell
-cells_of fields = map cell_of fields
-
--- a cell has a number where its text writes one, and that number
-abbrev pub HasItsNumber : Cell → Type 0
-HasItsNumber cell = (number : ℤ) → (cell.num ≡ Some number) ↔ IsNumber cell.text number
-
 -- a file may have so many bytes
 abbrev pub most_bytes : ℕ
 most_bytes = 2 ^ 24
@@ -46,10 +32,6 @@ most_bytes = 2 ^ 24
 -- and a table so many rows under its header
 abbrev pub most_rows : ℕ
 most_rows = 2 ^ 18
-
--- each record has as many fields as this
-abbrev pub AreWide : ℕ → List (List (List ℕ)) → Type 0
-AreWide width rows = AllByRecursion (λ row. length row ≡ width) rows
 
 -- what is wrong with the rows from this number on, if anything: the first row of another width, or the first past the
 -- limit, whichever comes first

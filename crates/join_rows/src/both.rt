@@ -6,7 +6,7 @@ ghost use Rattle.join_rows.specs.declared.fault.TableFault.TheVariants as fault;
 
 use crate::fault::TableFault;
 use crate::records::table_in;
-use crate::table::Table;
+use row_cells::Table;
 use std::alloc::Global;
 use std::thread;
 use std::thread::Threads;

@@ -3,7 +3,7 @@
 ghost use Rattle.std.specs.Prelude.{◌≡◌, ◌⊎◌, IfErr, OnOk, Err, Ok};
 ghost use Rattle.join_rows.specs.Records.{records_of, table_of, table_of_records};
 ghost use Rattle.join_rows.specs.declared.fault.TableFault.TheVariants as fault;
-ghost use Rattle.join_rows.specs.declared.table.Table.{Table};
+ghost use Rattle.row_cells.specs.declared.table.Table.{Table};
 
 use crate::byte_order_marks::without_marks;
 use crate::fault::TableFault;

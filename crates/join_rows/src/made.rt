@@ -2,12 +2,10 @@
 
 ghost use Rattle.std.specs.Prelude.{◌≡◌, ◌≤◌, ◌<◌, ◌^◌, IfOk};
 ghost use Rattle.join_rows.specs.Made.{made_fields, made_key as made_key', made_names as made_names', made_table, made_val as made_val'};
-ghost use Rattle.join_rows.specs.Records.{IsTable, cells_of};
+ghost use Rattle.row_cells.specs.Cells.{cells_of};
+ghost use Rattle.join_rows.specs.Records.{IsTable};
 
-use crate::bytes::Bytes;
-use crate::cells::Cells;
-use crate::list::Names;
-use crate::table::{Cell, Rows, Side, Table};
+use row_cells::{Bytes, Cell, Cells, Names, Rows, Side, Table};
 use std::alloc::{AllocError, Global};
 
 // The header of every made table.

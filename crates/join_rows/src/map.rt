@@ -4,10 +4,10 @@ ghost use Rattle.std.specs.Prelude.{◌≡◌, true, false, ◌≤◌, ◌<◌, 
 ghost use Rattle.join_rows.specs.Shelves.{AtEnd, Faulted, Lacks, Nexts, moved, raised};
 ghost use Rattle.join_rows.specs.InMemory.{Adds, Fills, MapState, file_under, is_named, named_spot};
 
-use crate::bytes::Bytes;
 use crate::find::{copy_from, find};
 use crate::named_file::{NamedFile, Place};
 use crate::shelf::{Failed, Shelf, one_more};
+use row_cells::Bytes;
 use std::alloc::{AllocError, Global};
 use std::marker::Model;
 

@@ -2,7 +2,7 @@
 
 ghost use Rattle.std.specs.Prelude.{◌≡◌};
 
-use crate::bytes::Bytes;
+use row_cells::Bytes;
 
 #[derive(Drop)]
 pub(crate) struct NamedFile {

@@ -6,11 +6,10 @@ ghost use Rattle.join_rows.specs.Reads.{IsOfBytes, WholeErr, WholeOk, answer_of}
 ghost use Rattle.join_rows.specs.Shelves.{Lacks, Tells, last_fault};
 ghost use Rattle.join_rows.specs.declared.fault.TableFault.TheVariants as fault;
 
-use crate::bytes::Bytes;
 use crate::fault::TableFault;
 use crate::records::{MOST_BYTES, table_from};
 use crate::shelf::Shelf;
-use crate::table::Table;
+use row_cells::{Bytes, Table};
 use std::alloc::Global;
 
 // How many bytes one read takes at most.

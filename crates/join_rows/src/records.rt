@@ -5,16 +5,14 @@ ghost use Rattle.csv.specs.Reading.{Ready, default_config, reader_config, reader
 ghost use Rattle.csv.specs.Records.{fields_of};
 ghost use Rattle.csv.specs.declared.parser.State.TheVariants as st;
 ghost use Rattle.csv.specs.declared.reader.Trim.TheVariants as trim;
-ghost use Rattle.join_rows.specs.Records.{IsTable, cells_of, records_of, table_of, table_of_records};
+ghost use Rattle.row_cells.specs.Cells.{cells_of};
+ghost use Rattle.join_rows.specs.Records.{IsTable, records_of, table_of, table_of_records};
 ghost use Rattle.join_rows.specs.declared.fault.TableFault.TheVariants as fault;
 
 use crate::byte_order_marks::without_marks;
-use crate::bytes::Bytes;
-use crate::cells::rows_over;
 use crate::fault::TableFault;
-use crate::list::Names;
-use crate::table::{Cell, Table};
 use csv::{ByteRecord, Reader, ReaderBuilder};
+use row_cells::{Bytes, Cell, Names, Table, rows_over};
 use std::alloc::{AllocError, Global};
 
 /// How many bytes a file may have.

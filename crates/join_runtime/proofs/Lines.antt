@@ -4,9 +4,9 @@ use Rattle.std.proofs.Common.{filter_map, length, arith}
 use Rattle.std.specs.Io.KnownBytes.{append_known}
 use Rattle.std.specs.List.Sorted.{IsPermutation}
 use Rattle.std.proofs.lemmas.List.Elements.{filter_map-append}
-use Rattle.join_rows.specs.Lists.{IsPrefix, IsWithinBag, SameBag, gather}
+use Rattle.row_cells.specs.Lists.{IsPrefix, IsWithinBag, SameBag, gather}
 use Rattle.join_rows.specs.Sinks.{AppendsFront}
-use Rattle.join_rows.proofs.Bags.{SameBag-sym}
+use Rattle.row_cells.proofs.Bags.{SameBag-sym}
 use Rattle.epoch_tags.specs.declared.actor.Actor.{Actor}
 use Rattle.epoch_tags.specs.declared.actor.Actor.TheVariants.{Collector, Joiner}
 use Rattle.epoch_tags.specs.declared.message.Msg.{Msg}

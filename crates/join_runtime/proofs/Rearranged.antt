@@ -7,7 +7,7 @@ use Rattle.std.proofs.lemmas.Bool.{and_parts, eqb-true, eq-eqb}
 use Rattle.std.proofs.lemmas.List.Sums.{sum_by-append, sum_by-cons}
 use Rattle.std.proofs.lemmas.List.Sorted.{IsPermutation-cons, IsPermutation-middle, IsPermutation-refl}
 use Rattle.std.proofs.lemmas.List.Sorted.{IsPermutation-sym, IsPermutation-trans}
-use Rattle.join_rows.specs.Lists.{SameBag}
+use Rattle.row_cells.specs.Lists.{SameBag}
 use Rattle.epoch_tags.specs.declared.tuple.Pair.{Pair}
 
 abbrev same_pair : Pair → Pair → Bool

@@ -4,7 +4,7 @@ use Rattle.std.proofs.Common.{List, Ok, Result, get_or, set, map, length, arith}
 use Rattle.std.specs.declared.alloc.AllocError.{AllocError}
 use Rattle.std.proofs.lemmas.Bool.{cases_eq}
 use Rattle.std.proofs.lemmas.List.{get_or_default, get_or-set_other, get_or-set_same, length-map, length-set}
-use Rattle.join_rows.specs.Lists.{IsPrefix}
+use Rattle.row_cells.specs.Lists.{IsPrefix}
 use Rattle.epoch_tags.specs.declared.actor.Actor.{Actor}
 use Rattle.theta_pred.specs.Formula.{Meaning}
 use Rattle.actor_core.specs.declared.cast.Cast.{Cast}

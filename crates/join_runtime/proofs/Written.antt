@@ -7,9 +7,9 @@ use Rattle.std.proofs.Math.Seq.{take-append-add, take-length}
 use Rattle.std.proofs.lemmas.Grind.{flat_map-append}
 use Rattle.std.proofs.lemmas.List.{length-append}
 use Rattle.std.proofs.lemmas.List.Concat.{length-flat_map}
-use Rattle.join_rows.specs.Lists.{IsWithinBag, SameBag}
+use Rattle.row_cells.specs.Lists.{IsWithinBag, SameBag}
 use Rattle.join_rows.specs.Sinks.{AppendsFront}
-use Rattle.join_rows.proofs.Bags.{SameBag-append, SameBag-permutation, SameBag-refl, SameBag-sym, SameBag-trans}
+use Rattle.row_cells.proofs.Bags.{SameBag-append, SameBag-permutation, SameBag-refl, SameBag-sym, SameBag-trans}
 use Rattle.epoch_tags.specs.declared.tuple.Pair.{Pair}
 use Rattle.trace_law.specs.declared.input.Input.{Input}
 use Rattle.trace_law.specs.Join.{nested_loop}

@@ -1,7 +1,7 @@
 -- What a run has written that puts the lines of pairs as they come, and what its collector gave.
 use Rattle.std.specs.Prelude.{◌≡◌, ◌<◌, ℕ, Option, Some, None, List, [], length, slice_index, IsPermutation}
 use Rattle.std.specs.Io.KnownBytes.{append_known}
-use Rattle.join_rows.specs.Lists.{IsWithinBag}
+use Rattle.row_cells.specs.Lists.{IsWithinBag}
 use Rattle.join_rows.specs.Sinks.{AppendsFront}
 use Rattle.epoch_tags.specs.declared.tuple.Pair.{Pair}
 use Rattle.epoch_tags.specs.declared.actor.Actor.{Actor}

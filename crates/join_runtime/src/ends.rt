@@ -14,7 +14,7 @@ ghost use Rattle.join_runtime.specs.Endings.{end_of, is_collected, journal_in, l
 use crate::bouts::Seats;
 use crate::seat::Seat;
 use actor_core::{Cast, Core, WaveRun, answer, last_two, machines_left, wave_run};
-use join_rows::Items;
+use row_cells::Items;
 use ruled_links::{Inbox, Mouth};
 use std::alloc::{AllocError, Global};
 use std::marker::Model;

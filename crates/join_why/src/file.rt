@@ -5,8 +5,8 @@ use crate::lines::{Found, record_at};
 use crate::shown::push_bytes;
 use crate::source::{Source, last_source, source_of};
 use join_plan::{InputFault, LimitFault};
-use join_rows::Bytes;
 use join_words::Options;
+use row_cells::Bytes;
 use std::alloc::{AllocError, Global};
 
 /// The record at this place of a file, where it is kept.

@@ -1,7 +1,7 @@
 // How the matches of a row are found.
 
 use crate::shown::push_column;
-use join_rows::{Names, Side};
+use row_cells::{Names, Side};
 use std::alloc::AllocError;
 use theta_pred::{Access, Interval, KeyAtom, Linear, Range, Same, Theta};
 

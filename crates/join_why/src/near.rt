@@ -1,6 +1,6 @@
 // The name that was perhaps meant.
 
-use join_rows::Names;
+use row_cells::Names;
 use std::alloc::{AllocError, Global};
 use std::str;
 use strsim::damerau_levenshtein;

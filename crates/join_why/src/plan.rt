@@ -7,9 +7,9 @@ use crate::lookup::{Headers, push_lookup};
 use crate::source::{label_of, name_of};
 use grid_map::{Shape, Weights, best_shift, copies};
 use join_plan::{Planned, Tables, Third, WaveEnd};
-use join_rows::{Side, Table};
 use join_words::{Grid, Kind, Options};
 use joined_rows::joined_names;
+use row_cells::{Side, Table};
 use std::alloc::{AllocError, Global};
 
 /// What a run takes beside its rows, in bytes.

@@ -5,9 +5,9 @@ use crate::near::nearest;
 use crate::shown::{push_bytes, push_column};
 use crate::source::names_of;
 use join_plan::{TextFault, Which};
-use join_rows::{Bytes, Names, Side};
 use join_words::Options;
 use predicate_hints::{caret, expected, meant};
+use row_cells::{Bytes, Names, Side};
 use std::alloc::{AllocError, Global};
 use std::str;
 

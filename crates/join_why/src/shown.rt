@@ -1,6 +1,6 @@
 // Names and cells, as they are shown.
 
-use join_rows::{Bytes, Side};
+use row_cells::{Bytes, Side};
 use std::alloc::AllocError;
 use std::str;
 

@@ -3,9 +3,10 @@
 use crate::kept::KeptFile;
 use crate::lines::record_at;
 use join_plan::Which;
-use join_rows::{Bytes, Names, Side, make_table};
+use join_rows::make_table;
 use join_words::Options;
 use joined_rows::joined_names;
+use row_cells::{Bytes, Names, Side};
 use std::alloc::{AllocError, Global};
 
 /// A file that the words name.

@@ -1,7 +1,7 @@
 -- Worked rows: joined names, and the joined row of a pair.
 use Rattle.std.proofs.Common.{◌≡◌, ℕ, List, [], ◌∷◌, refl}
 use Rattle.std.specs.Prelude.{codes}
-use Rattle.join_rows.specs.Records.{cell_of}
+use Rattle.row_cells.specs.Cells.{cell_of}
 use Rattle.joined_rows.specs.Joined.{joined_names, joined_row}
 
 -- `id` and `id` come to be `r_id` and `s_id`

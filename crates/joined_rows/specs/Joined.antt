@@ -1,7 +1,7 @@
 -- The header and the rows of a join.
 use Rattle.std.specs.Prelude.{◌++◌, ℕ, List, [], map, codes}
 use Rattle.std.specs.List.{slice_index_or}
-use Rattle.join_rows.specs.declared.table.Cell.{Cell}
+use Rattle.row_cells.specs.declared.table.Cell.{Cell}
 use Rattle.epoch_tags.specs.declared.tuple.Pair.{Pair}
 
 -- the names of R, each after `r_`, and then those of S, each after `s_`

@@ -3,7 +3,7 @@
 ghost use Rattle.std.specs.Prelude.{◌≡◌, ◌++◌, IfOk, OnOk, map};
 ghost use Rattle.joined_rows.specs.Joined.{joined_names as joined_names'};
 
-use join_rows::{Bytes, Names};
+use row_cells::{Bytes, Names};
 use std::alloc::{AllocError, Global};
 
 // A name after a prefix.

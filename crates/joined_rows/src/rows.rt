@@ -4,7 +4,7 @@ ghost use Rattle.std.specs.Prelude.{◌≡◌, ◌++◌, IfOk, OnOk, map};
 ghost use Rattle.joined_rows.specs.Joined.{joined_row as joined_row', row_at as row_at'};
 
 use epoch_tags::Pair;
-use join_rows::{Cell, Cells, Rows};
+use row_cells::{Cell, Cells, Rows};
 use std::alloc::{AllocError, Global};
 
 // The cells of the row at a place, none where there is no such row.

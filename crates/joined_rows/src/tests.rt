@@ -1,6 +1,6 @@
 use crate::{joined_names, joined_rows};
 use epoch_tags::Pair;
-use join_rows::{Bytes, Cell, Cells, Names, Rows};
+use row_cells::{Bytes, Cell, Cells, Names, Rows};
 use std::alloc::{AllocError, Global};
 use std::test::Fail;
 

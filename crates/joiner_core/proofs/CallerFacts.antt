@@ -4,8 +4,8 @@ use Rattle.std.proofs.Common.{Bool, true, false, List, ◌++◌, length}
 use Rattle.std.specs.Prelude.{min, ⊤}
 use Rattle.std.proofs.lemmas.List.{length-append}
 use Rattle.std.proofs.lemmas.Bool.{false≢true, cases_Bool}
-use Rattle.join_rows.specs.Lists.{total}
-use Rattle.join_rows.proofs.Totals.{total_same}
+use Rattle.row_cells.specs.Lists.{total}
+use Rattle.row_cells.proofs.Totals.{total_same}
 use Rattle.grid_map.proofs.Halves.{partner_below}
 use Rattle.epoch_tags.specs.declared.actor.Actor.{Actor}
 use Rattle.epoch_tags.specs.declared.actor.Actor.TheVariants.{Feeder, Joiner as Joiner', Controller, Collector}

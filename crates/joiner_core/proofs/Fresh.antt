@@ -3,8 +3,8 @@ use Rattle.std.proofs.Common.{◌≡◌, ℕ, zero, suc, ◌^◌, ◌<◌, ◌�
 use Rattle.std.proofs.Common.{[], ◌∷◌, ◌++◌, length}
 use Rattle.std.proofs.lemmas.Bool.{false≢true}
 use Rattle.std.specs.List.{AllByRecursion}
-use Rattle.join_rows.specs.Lists.{SameBag, gather}
-use Rattle.join_rows.proofs.Bags.{SameBag-refl}
+use Rattle.row_cells.specs.Lists.{SameBag, gather}
+use Rattle.row_cells.proofs.Bags.{SameBag-refl}
 use Rattle.epoch_tags.specs.declared.tuple.Tuple.{Tuple}
 use Rattle.epoch_tags.specs.declared.message.ToJoiner.{ToJoiner}
 use Rattle.epoch_tags.specs.Flags.{flag_at}

@@ -2,7 +2,7 @@
 use Rattle.std.proofs.Common.{◌≡◌, ℕ, ◌+◌, ◌<◌, ◌≤◌, refl, sym, ◌∙◌, ap, subst, arith, Bool, true, false, Option, Some}
 use Rattle.std.proofs.Common.{None, List, ◌∷◌, length}
 use Rattle.std.proofs.lemmas.Bool.{false≢true}
-use Rattle.join_rows.proofs.Totals.{greatest_above, greatest_most}
+use Rattle.row_cells.proofs.Totals.{greatest_above, greatest_most}
 use Rattle.epoch_tags.specs.declared.tuple.Pair.{Pair}
 use Rattle.epoch_tags.specs.declared.message.ToJoiner.{ToJoiner}
 use Rattle.epoch_tags.specs.declared.message.ToJoiner.TheVariants.{Tup, Turn, End, Moved, MovedEnd}

@@ -6,7 +6,7 @@ use Rattle.std.specs.List.{find}
 use Rattle.std.proofs.lemmas.Bool.{cases_eq, and_parts, and_from, not-true, false_from_ne_true}
 use Rattle.std.proofs.lemmas.List.{append_cancel_left}
 use Rattle.std.proofs.lemmas.List.Sums.{sum_by-set}
-use Rattle.join_rows.specs.Lists.{counting_from}
+use Rattle.row_cells.specs.Lists.{counting_from}
 use Rattle.epoch_tags.specs.declared.actor.Actor.TheVariants.{Feeder, Joiner as Joiner'}
 use Rattle.epoch_tags.specs.declared.tuple.Pair.{Pair}
 use Rattle.epoch_tags.specs.declared.message.Post.{Post}

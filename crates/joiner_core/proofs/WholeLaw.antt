@@ -4,10 +4,10 @@ use Rattle.std.proofs.Common.{Bool, true, false, Option, Some, None, List, [], â
 use Rattle.std.specs.Prelude.{flat_map, map, count_by}
 use Rattle.std.specs.List.{AllByRecursion}
 use Rattle.std.proofs.lemmas.Bool.{falseâ‰¢true, cases_eq}
-use Rattle.join_rows.specs.declared.table.Side.TheVariants.{R, S}
-use Rattle.join_rows.specs.Lists.{SameBag, counting_from}
-use Rattle.join_rows.proofs.Bags.{SameBag-trans, SameBag-sym}
-use Rattle.join_rows.proofs.Totals.{greatest_above, greatest_most}
+use Rattle.row_cells.specs.declared.table.Side.TheVariants.{R, S}
+use Rattle.row_cells.specs.Lists.{SameBag, counting_from}
+use Rattle.row_cells.proofs.Bags.{SameBag-trans, SameBag-sym}
+use Rattle.row_cells.proofs.Totals.{greatest_above, greatest_most}
 use Rattle.epoch_tags.specs.declared.tuple.Pair.{Pair}
 use Rattle.epoch_tags.specs.declared.message.ToCollector.{ToCollector}
 use Rattle.epoch_tags.specs.declared.message.ToCollector.TheVariants.{Found, Fin}

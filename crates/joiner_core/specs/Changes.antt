@@ -1,7 +1,7 @@
 -- What each call does to the machine, as functions of its state.
 use Rattle.std.specs.Prelude.{◌≡◌, ℕ, Bool, true, false, List, length, cond, slice_set, count_by, Option, Some, None}
 use Rattle.std.specs.Prelude.{[], ◌∷◌, ◌++◌, map, filter}
-use Rattle.join_rows.specs.declared.table.Side.{Side}
+use Rattle.row_cells.specs.declared.table.Side.{Side}
 use Rattle.epoch_tags.specs.declared.tuple.Tuple.{Tuple}
 use Rattle.epoch_tags.specs.declared.tuple.Pair.{Pair}
 use Rattle.epoch_tags.specs.declared.message.Post.{Post}

@@ -1,6 +1,6 @@
 -- A joiner as its callers see it, and what a call does to it.
 use Rattle.std.specs.Prelude.{◌≡◌, ℕ, ◌+◌, ◌-◌, ◌^◌, Bool, true, List, ◌++◌, length}
-use Rattle.join_rows.specs.Lists.{total}
+use Rattle.row_cells.specs.Lists.{total}
 use Rattle.epoch_tags.specs.declared.actor.Actor.{Actor}
 use Rattle.epoch_tags.specs.declared.actor.Actor.TheVariants.{Joiner as Joiner'}
 use Rattle.epoch_tags.specs.declared.message.Post.{Post}

@@ -7,7 +7,7 @@ use Rattle.store_parts.specs.declared.by_stamp.Which.{Which}
 use Rattle.store_parts.specs.declared.by_stamp.Which.TheVariants.{All as All', OnlyStamp}
 use Rattle.joiner_law.specs.History.{all_tuples, only_stamp}
 use Rattle.epoch_tags.specs.declared.message.ToJoiner.{ToJoiner}
-use Rattle.join_rows.specs.declared.table.Side.TheVariants.{R, S}
+use Rattle.row_cells.specs.declared.table.Side.TheVariants.{R, S}
 use Rattle.migration_plan.specs.Steps.{holds, is_of}
 use Rattle.theta_pred.specs.declared.atom.KeyAtom.{KeyAtom}
 use Rattle.theta_pred.specs.Keys.{atom_of, key_of}

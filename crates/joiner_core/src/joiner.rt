@@ -2,7 +2,7 @@
 
 ghost use Rattle.std.specs.Prelude.{◌≡◌, ◌+◌, ◌-◌, ◌<◌, ◌^◌, ◌≤◌, ◌↔◌, min, IsTrue, [], OnOk, OnErr, IfOk, Err, alloc_error, true, false};
 ghost use Rattle.std.specs.List.{AllByRecursion};
-ghost use Rattle.join_rows.specs.Lists.{SameBag};
+ghost use Rattle.row_cells.specs.Lists.{SameBag};
 ghost use Rattle.epoch_tags.specs.declared.actor.Actor.TheVariants.{Joiner as Joiner'};
 ghost use Rattle.epoch_tags.specs.declared.tuple.Tuple.{Tuple};
 ghost use Rattle.epoch_tags.specs.Links.{HasLink};

@@ -7,7 +7,7 @@ ghost use Rattle.joiner_core.specs.Calls.{fin_of, found_posts};
 use crate::epochs::Epochs;
 use crate::machine::Machine;
 use epoch_tags::{Actor, Counts, Msg, Pairs, Post, Sends, ToCollector};
-use join_rows::Side;
+use row_cells::Side;
 use std::alloc::{AllocError, Global};
 
 impl<'a> Epochs<'a> {

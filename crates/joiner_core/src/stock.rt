@@ -12,7 +12,7 @@ ghost use Rattle.joiner_core.specs.State.{IsRow, IsStock};
 use crate::epochs::move_to;
 use epoch_tags::{Pairs, Sends, Tuple};
 use grid_map::Shape;
-use join_rows::Side;
+use row_cells::Side;
 use std::alloc::AllocError;
 use std::marker::Model;
 use store_parts::{Store, Which};

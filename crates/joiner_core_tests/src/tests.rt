@@ -7,8 +7,8 @@ ghost use Rattle.std.specs.Prelude.{◌≡◌, IfOk};
 
 use epoch_tags::{Actor, Sends, ToJoiner};
 use given::{message, number, sender};
-use join_rows::{Bytes, Names};
 use joiner_core::Joiner;
+use row_cells::{Bytes, Names};
 use sent::sent;
 use std::alloc::{AllocError, Global};
 use std::process::Abort;

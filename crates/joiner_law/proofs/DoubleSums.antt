@@ -3,15 +3,15 @@ use Rattle.std.proofs.Common.{◌≡◌, ℕ, ◌+◌, refl, sym, ◌∙◌, ap,
 use Rattle.std.specs.Prelude.{filter, map, sum_by}
 use Rattle.std.specs.List.{AllByRecursion}
 use Rattle.std.proofs.lemmas.List.Sums.{sum_by-cons}
-use Rattle.join_rows.specs.declared.table.Side.{Side}
-use Rattle.join_rows.specs.declared.table.Side.TheVariants.{R, S}
-use Rattle.join_rows.specs.Lists.{SameBag}
-use Rattle.join_rows.proofs.Bags.{only_if, sum-same, sum-filter, sum_of_map, sum-flat_map}
+use Rattle.row_cells.specs.declared.table.Side.{Side}
+use Rattle.row_cells.specs.declared.table.Side.TheVariants.{R, S}
+use Rattle.row_cells.specs.Lists.{SameBag}
+use Rattle.row_cells.proofs.Bags.{only_if, sum-same, sum-filter, sum_of_map, sum-flat_map}
 use Rattle.epoch_tags.specs.declared.tuple.Tuple.{Tuple}
 use Rattle.epoch_tags.specs.declared.tuple.Pair.{Pair}
 use Rattle.migration_plan.specs.Steps.{is_of, same_side}
 use Rattle.joiner_law.specs.Law.{pair_of, pairs_by}
-use Rattle.join_rows.proofs.Totals.{sum_same_on}
+use Rattle.row_cells.proofs.Totals.{sum_same_on}
 
 -- what the pair of these two tuples adds, where it is an R tuple and an S tuple that pass the test
 abbrev pub weight : (Pair → ℕ) → (Tuple → Tuple → Bool) → Tuple → Tuple → ℕ

@@ -1,6 +1,6 @@
 -- A joiner that has just started keeps the law with empty lists.
 use Rattle.std.proofs.Common.{◌≡◌, ℕ, zero, suc, ◌<◌, ◌≤◌, inl, refl, ap, arith, [], ◌++◌}
-use Rattle.join_rows.specs.Lists.{gather, greatest}
+use Rattle.row_cells.specs.Lists.{gather, greatest}
 use Rattle.epoch_tags.specs.declared.message.ToJoiner.{ToJoiner}
 use Rattle.joiner_law.specs.Law.{JoinerStart, JoinerLists, JoinerLaw, Taken, IsTakenOf, opened, arrived, found}
 

@@ -5,11 +5,11 @@ use Rattle.std.specs.Prelude.{◌==◌, max, filter, sum_by}
 use Rattle.std.specs.List.{AllByRecursion}
 use Rattle.std.proofs.lemmas.Bool.{cases_eq, ne_eqb}
 use Rattle.std.proofs.lemmas.List.Sums.{sum_by-cons, sum_by-append}
-use Rattle.join_rows.specs.declared.table.Side.{Side}
-use Rattle.join_rows.specs.declared.table.Side.TheVariants.{R, S}
-use Rattle.join_rows.specs.Lists.{SameBag}
-use Rattle.join_rows.proofs.Bags.{only_if, sum-same, sum-filter, sum_of_map, SameBag-refl, SameBag-trans}
-use Rattle.join_rows.proofs.Bags.{SameBag-filter, SameBag-map, SameBag-append}
+use Rattle.row_cells.specs.declared.table.Side.{Side}
+use Rattle.row_cells.specs.declared.table.Side.TheVariants.{R, S}
+use Rattle.row_cells.specs.Lists.{SameBag}
+use Rattle.row_cells.proofs.Bags.{only_if, sum-same, sum-filter, sum_of_map, SameBag-refl, SameBag-trans}
+use Rattle.row_cells.proofs.Bags.{SameBag-filter, SameBag-map, SameBag-append}
 use Rattle.epoch_tags.specs.declared.tuple.Tuple.{Tuple}
 use Rattle.epoch_tags.specs.declared.tuple.Pair.{Pair}
 use Rattle.migration_plan.specs.Steps.{holds, is_of, same_side}
@@ -18,7 +18,7 @@ use Rattle.joiner_law.specs.History.{Step, stored, counts_at, all_found, AllUpTo
 use Rattle.joiner_law.specs.History.{with_arrived, with_came, new_step, all_tuples, only_stamp, probed_at, probed}
 use Rattle.joiner_law.proofs.DoubleSums.{weight, double, sum-pairs, double-bag, double-add, double-none, not_both}
 use Rattle.std.proofs.lemmas.List.{append-nil}
-use Rattle.join_rows.proofs.Totals.{sum_plus, sum_same_on}
+use Rattle.row_cells.proofs.Totals.{sum_plus, sum_same_on}
 
 -- ---- stores
 

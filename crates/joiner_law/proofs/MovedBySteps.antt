@@ -5,10 +5,10 @@ use Rattle.std.specs.Prelude.{map, filter, count_by, min}
 use Rattle.std.proofs.lemmas.Bool.{cases_eq}
 use Rattle.std.proofs.lemmas.List.{map-append, length-append, append-nil}
 use Rattle.std.proofs.lemmas.List.Sums.{length-filter}
-use Rattle.join_rows.specs.Lists.{SameBag, gather, counting_from}
-use Rattle.join_rows.proofs.Bags.{SameBag-trans, SameBag-sym, SameBag-filter}
-use Rattle.join_rows.proofs.RisingNumbers.{counting-more}
-use Rattle.join_rows.proofs.Totals.{length_sum}
+use Rattle.row_cells.specs.Lists.{SameBag, gather, counting_from}
+use Rattle.row_cells.proofs.Bags.{SameBag-trans, SameBag-sym, SameBag-filter}
+use Rattle.row_cells.proofs.RisingNumbers.{counting-more}
+use Rattle.row_cells.proofs.Totals.{length_sum}
 use Rattle.epoch_tags.specs.declared.tuple.Tuple.{Tuple}
 use Rattle.epoch_tags.specs.declared.message.ToJoiner.{ToJoiner}
 use Rattle.epoch_tags.specs.Messages.{moved_of, moved_ends}

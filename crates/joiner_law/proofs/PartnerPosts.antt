@@ -4,8 +4,8 @@ use Rattle.std.proofs.Common.{cond, List, [], ◌∷◌, ◌++◌, length, eq-eq
 use Rattle.std.specs.Prelude.{map, filter}
 use Rattle.std.proofs.lemmas.Bool.{cases_eq, ne_eqb}
 use Rattle.std.proofs.lemmas.List.Sums.{sum_by-cons, sum_by-append}
-use Rattle.join_rows.specs.Lists.{SameBag}
-use Rattle.join_rows.proofs.Bags.{SameBag-refl, SameBag-trans, SameBag-sym, SameBag-append, SameBag-filter}
+use Rattle.row_cells.specs.Lists.{SameBag}
+use Rattle.row_cells.proofs.Bags.{SameBag-refl, SameBag-trans, SameBag-sym, SameBag-append, SameBag-filter}
 use Rattle.epoch_tags.specs.declared.tuple.Tuple.{Tuple}
 use Rattle.epoch_tags.specs.declared.message.ToJoiner.{ToJoiner}
 use Rattle.epoch_tags.specs.declared.message.ToJoiner.TheVariants.{Tup, Turn, End, Moved, MovedEnd}

@@ -5,8 +5,8 @@ use Rattle.std.specs.Prelude.{nat_le, filter, sum_by}
 use Rattle.std.specs.List.{AllByRecursion}
 use Rattle.std.proofs.lemmas.Bool.{cases_eq, ne_eqb, le-leb}
 use Rattle.std.proofs.lemmas.List.Sums.{sum_by-cons, sum_by-append}
-use Rattle.join_rows.specs.Lists.{SameBag}
-use Rattle.join_rows.proofs.Bags.{sum-same, SameBag-trans, SameBag-sym, SameBag-append, SameBag-filter}
+use Rattle.row_cells.specs.Lists.{SameBag}
+use Rattle.row_cells.proofs.Bags.{sum-same, SameBag-trans, SameBag-sym, SameBag-append, SameBag-filter}
 use Rattle.epoch_tags.specs.declared.tuple.Tuple.{Tuple}
 use Rattle.epoch_tags.specs.declared.tuple.Pair.{Pair}
 use Rattle.epoch_tags.specs.declared.message.ToJoiner.{ToJoiner}

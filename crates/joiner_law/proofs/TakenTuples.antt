@@ -2,8 +2,8 @@
 use Rattle.std.proofs.Common.{◌≡◌, ℕ, ◌+◌, ◌<◌, refl, sym, subst, arith, Bool, true, false, cond, List, [], ◌∷◌, ◌++◌}
 use Rattle.std.proofs.Common.{length}
 use Rattle.std.specs.Prelude.{map}
-use Rattle.join_rows.specs.Lists.{SameBag}
-use Rattle.join_rows.proofs.Bags.{SameBag-trans, SameBag-sym}
+use Rattle.row_cells.specs.Lists.{SameBag}
+use Rattle.row_cells.proofs.Bags.{SameBag-trans, SameBag-sym}
 use Rattle.epoch_tags.specs.declared.tuple.Tuple.{Tuple}
 use Rattle.epoch_tags.specs.declared.tuple.Pair.{Pair}
 use Rattle.epoch_tags.specs.declared.message.ToJoiner.TheVariants.{Tup, Moved}

@@ -3,8 +3,8 @@ use Rattle.std.proofs.Common.{◌≡◌, ℕ, zero, suc, ◌+◌, ◌<◌, ◌�
 use Rattle.std.proofs.Common.{false, List, [], ◌∷◌, ◌++◌, length, eq-eqb}
 use Rattle.std.specs.Prelude.{◌==◌, map, filter}
 use Rattle.std.proofs.lemmas.Bool.{cases_eq, ne_eqb}
-use Rattle.join_rows.specs.Lists.{SameBag, counting_from}
-use Rattle.join_rows.proofs.Bags.{SameBag-filter}
+use Rattle.row_cells.specs.Lists.{SameBag, counting_from}
+use Rattle.row_cells.proofs.Bags.{SameBag-filter}
 use Rattle.epoch_tags.specs.declared.tuple.Tuple.{Tuple}
 use Rattle.epoch_tags.specs.declared.tuple.Pair.{Pair}
 use Rattle.epoch_tags.specs.declared.message.ToJoiner.{ToJoiner}

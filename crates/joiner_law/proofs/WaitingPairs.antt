@@ -1,8 +1,8 @@
 -- The pairs that wait to be sent, with what one message more finds.
 use Rattle.std.proofs.Common.{◌≡◌, ℕ, ◌+◌, ◌≤◌, arith, cond, List, [], ◌∷◌, ◌++◌, length}
 use Rattle.std.proofs.lemmas.List.Sums.{sum_by-append}
-use Rattle.join_rows.specs.Lists.{SameBag}
-use Rattle.join_rows.proofs.Bags.{SameBag-trans, SameBag-sym}
+use Rattle.row_cells.specs.Lists.{SameBag}
+use Rattle.row_cells.proofs.Bags.{SameBag-trans, SameBag-sym}
 use Rattle.epoch_tags.specs.declared.tuple.Tuple.{Tuple}
 use Rattle.epoch_tags.specs.declared.tuple.Pair.{Pair}
 use Rattle.migration_plan.specs.Steps.{holds}

@@ -1,7 +1,7 @@
 -- What a joiner's machine holds, and the lists for which it stands.
 use Rattle.std.specs.Prelude.{◌≡◌, ℕ, zero, suc, ◌+◌, ◌<◌, ◌≤◌, ◌==◌, Bool, true, false, cond, ⊤, List, [], ◌∷◌, ◌++◌}
 use Rattle.std.specs.Prelude.{filter, length, flat_map, map, ◌⊎◌, count_by}
-use Rattle.join_rows.specs.Lists.{SameBag, counting_from}
+use Rattle.row_cells.specs.Lists.{SameBag, counting_from}
 use Rattle.epoch_tags.specs.declared.tuple.Tuple.{Tuple}
 use Rattle.epoch_tags.specs.declared.tuple.Pair.{Pair}
 use Rattle.epoch_tags.specs.declared.message.ToJoiner.{ToJoiner}

@@ -5,7 +5,7 @@ use Rattle.std.specs.List.{AllByRecursion}
 use Rattle.std.proofs.lemmas.Bool.{le-leb}
 use Rattle.std.proofs.lemmas.List.{reverse-reverse}
 use Rattle.std.proofs.lemmas.List.Elements.{recursion_from_All}
-use Rattle.join_rows.proofs.Everywhere.{all-reverse}
+use Rattle.row_cells.proofs.Everywhere.{all-reverse}
 use Rattle.load_controller.specs.declared.line.TurnLine.{TurnLine}
 use Rattle.load_controller.specs.Journal.{Rules, Fits, Follows}
 use Rattle.load_controller.proofs.Bound.{shifts_within}

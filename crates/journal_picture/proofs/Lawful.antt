@@ -4,7 +4,7 @@ use Rattle.std.specs.Prelude.{None, All, reverse}
 use Rattle.std.specs.List.{AllByRecursion}
 use Rattle.std.proofs.lemmas.List.{reverse-reverse}
 use Rattle.std.proofs.lemmas.List.Elements.{All-from_recursion}
-use Rattle.join_rows.proofs.Everywhere.{all-reverse}
+use Rattle.row_cells.proofs.Everywhere.{all-reverse}
 use Rattle.load_controller.specs.declared.line.TurnLine.{TurnLine}
 use Rattle.load_controller.specs.Journal.{Rules, Fits, Follows}
 use Rattle.load_controller.proofs.Still.{still_is_near}

@@ -3,8 +3,8 @@
 ghost use Rattle.std.specs.Prelude.{◌≡◌, IfOk};
 ghost use Rattle.journal_picture.specs.Changes as of;
 
-use join_rows::Items;
 use load_controller::{Cause, TurnLine};
+use row_cells::Items;
 use std::alloc::{AllocError, Global};
 
 /// A step from one shape of the grid to the next.

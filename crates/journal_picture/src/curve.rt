@@ -6,7 +6,7 @@ ghost use Rattle.journal_picture.specs.Curve.{IsAmong, IsCovered};
 
 use crate::place::{column, height};
 use crate::point::Point;
-use join_rows::Items;
+use row_cells::Items;
 use std::alloc::{AllocError, Global};
 
 /// The higher of two points, the first where they are as high.

@@ -11,8 +11,8 @@ use crate::place::{across, down, height, rows};
 use crate::point::{Point, points};
 use crate::words::{write_greatest, write_shapes};
 use grid_map::Weights;
-use join_rows::Items;
 use load_controller::TurnLine;
+use row_cells::Items;
 use std::alloc::{AllocError, Global};
 
 /// What is drawn of a journal of 2^k joiners.

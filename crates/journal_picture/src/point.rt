@@ -6,8 +6,8 @@ ghost use Rattle.journal_picture.specs.Points as of;
 ghost use Rattle.journal_picture.specs.Bound.{AreNear, IsWithin};
 
 use grid_map::{Shape, Weights, best_shift, copies};
-use join_rows::Items;
 use load_controller::TurnLine;
+use row_cells::Items;
 use std::alloc::{AllocError, Global};
 
 /// What is drawn of a line of a journal.

@@ -5,8 +5,8 @@ use Rattle.std.specs.Prelude.{map, not, MatchBool, ◌==◌}
 use Rattle.std.specs.List.{AllByRecursion}
 use Rattle.std.proofs.lemmas.Bool.{cases_Bool, eq-eqb, or_parts}
 use Rattle.std.proofs.lemmas.List.{map-append, append-nil, reverse-append}
-use Rattle.join_rows.specs.Lists.{total}
-use Rattle.join_rows.proofs.Totals.{total_one, total_same, total-zero}
+use Rattle.row_cells.specs.Lists.{total}
+use Rattle.row_cells.proofs.Totals.{total_one, total_same, total-zero}
 use Rattle.epoch_tags.specs.declared.message.ToController.{ToController}
 use Rattle.epoch_tags.specs.declared.message.ToController.TheVariants.{Ask, Drained, Settled}
 use Rattle.epoch_tags.specs.Messages.{asks, draineds, asked_r, asked_s}

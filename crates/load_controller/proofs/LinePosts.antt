@@ -5,8 +5,8 @@ use Rattle.std.specs.Prelude.{map, ◌==◌, not, ◌&&◌}
 use Rattle.std.proofs.lemmas.Bool.{cases_eq, eq-eqb, ne_eqb}
 use Rattle.std.proofs.lemmas.List.{map-append}
 use Rattle.std.proofs.lemmas.List.Elements.{filter_map-append, All-append, All-nil}
-use Rattle.join_rows.specs.Lists.{counting_from}
-use Rattle.join_rows.proofs.RisingNumbers.{counting-more}
+use Rattle.row_cells.specs.Lists.{counting_from}
+use Rattle.row_cells.proofs.RisingNumbers.{counting-more}
 use Rattle.epoch_tags.specs.declared.actor.Actor.TheVariants.{Controller}
 use Rattle.epoch_tags.specs.declared.message.Post.{Post}
 use Rattle.epoch_tags.specs.declared.message.ToFeeder.{ToFeeder}

@@ -2,12 +2,12 @@
 use Rattle.std.proofs.Common.{◌≡◌, ℕ, ◌<◌, inl, inr, refl, sym, ap, arith, true, false, not, ◌&&◌, List, [], ◌∷◌}
 use Rattle.std.specs.List.{list_all}
 use Rattle.std.proofs.lemmas.Bool.{or_cases, or_left, or_right, and_parts, and_from, or_parts, true≢false}
-use Rattle.join_rows.specs.Lists.{counting_from}
+use Rattle.row_cells.specs.Lists.{counting_from}
 use Rattle.load_controller.specs.declared.line.TurnLine.{TurnLine}
 use Rattle.load_controller.specs.Journal.{has_drained, is_drain_of}
 use Rattle.load_controller.specs.Law.{is_over}
 use Rattle.load_controller.proofs.Counted.{drain_lines}
-use Rattle.join_rows.proofs.RisingNumbers.{one_passes, every_passes}
+use Rattle.row_cells.proofs.RisingNumbers.{one_passes, every_passes}
 
 -- where it is over each feeder has drained
 pub over_drained : (feeders p : ℕ) (past : List TurnLine) → p < feeders → is_over feeders past ≡ true

@@ -6,8 +6,8 @@ use Rattle.std.specs.List.{list_all, AllByRecursion}
 use Rattle.std.proofs.lemmas.Bool.{eq-eqb, ne_eqb, or_parts, or_left, or_right, or_from, and_left, and_right, not-true}
 use Rattle.std.proofs.lemmas.Bool.{not_from_true, true≢false}
 use Rattle.std.proofs.lemmas.List.{append-nil}
-use Rattle.join_rows.specs.Lists.{counting_from}
-use Rattle.join_rows.proofs.RisingNumbers.{counting-more, one_fails}
+use Rattle.row_cells.specs.Lists.{counting_from}
+use Rattle.row_cells.proofs.RisingNumbers.{counting-more, one_fails}
 use Rattle.epoch_tags.specs.declared.message.ToController.{ToController}
 use Rattle.epoch_tags.specs.declared.message.ToController.TheVariants.{Ask, Drained, Settled}
 use Rattle.epoch_tags.specs.declared.message.ToFeeder.{ToFeeder}

@@ -7,9 +7,9 @@ use Rattle.std.specs.List.{list_any}
 use Rattle.std.proofs.lemmas.Bool.{cases_Bool, cases_eq, eq-eqb, ne_eqb, eqb-true, eqb-false, true≢false, false≢true}
 use Rattle.std.proofs.lemmas.Bool.{not-true}
 use Rattle.std.proofs.lemmas.Nat.{pow_pos}
-use Rattle.join_rows.specs.Lists.{total, counting_from}
-use Rattle.join_rows.proofs.RisingNumbers.{length-counting_from, at_place}
-use Rattle.join_rows.proofs.Totals.{total_one, total_same, total-const, each_full, some_less}
+use Rattle.row_cells.specs.Lists.{total, counting_from}
+use Rattle.row_cells.proofs.RisingNumbers.{length-counting_from, at_place}
+use Rattle.row_cells.proofs.Totals.{total_one, total_same, total-const, each_full, some_less}
 use Rattle.load_controller.specs.declared.line.Cause.{Cause}
 use Rattle.load_controller.specs.declared.line.Cause.TheVariants.{Start, Wave, Count, Settle, Drain}
 use Rattle.load_controller.specs.declared.line.TurnLine.{TurnLine}

@@ -24,7 +24,7 @@ use Rattle.load_controller.specs.Standing.{ControllerStart, ControllerState, Sta
 use Rattle.load_controller.specs.Standing.{IsPassedOver, posts_for}
 use Rattle.load_controller.specs.Machine.{HoldsSettled, StandsWithin}
 use Rattle.load_controller.proofs.LinePosts.{posted_for}
-use Rattle.join_rows.proofs.Everywhere.{weaken}
+use Rattle.row_cells.proofs.Everywhere.{weaken}
 
 -- ---- small things
 

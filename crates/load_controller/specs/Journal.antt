@@ -3,7 +3,7 @@ use Rattle.std.specs.Prelude.{◌≡◌, ℕ, ◌+◌, ◌*◌, ◌/◌, ◌^◌
 use Rattle.std.specs.Prelude.{◌||◌, IsTrue, ⊤, Option, Some, None, is_none, unwrap_or, List, [], ◌∷◌, ◌++◌, map}
 use Rattle.std.specs.Prelude.{reverse, length, filter, if◌then◌else◌}
 use Rattle.std.specs.List.{list_any}
-use Rattle.join_rows.specs.Lists.{IsPrefix}
+use Rattle.row_cells.specs.Lists.{IsPrefix}
 use Rattle.grid_map.specs.declared.cost.Weights.{Weights}
 use Rattle.grid_map.specs.Load.{best_shift, HasFewest}
 use Rattle.migration_plan.specs.Steps.{next_step}

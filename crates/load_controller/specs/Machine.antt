@@ -2,7 +2,7 @@
 use Rattle.std.specs.Prelude.{◌≡◌, ℕ, ◌+◌, ◌-◌, ◌*◌, ◌^◌, ◌<◌, ◌≤◌, ◌==◌, ⊤, Bool, true, false, not, ◌&&◌, ◌||◌, None}
 use Rattle.std.specs.Prelude.{List, [], ◌∷◌, ◌++◌, All, drop, length, reverse, sum_by, if◌then◌else◌}
 use Rattle.std.specs.List.{list_all}
-use Rattle.join_rows.specs.Lists.{IsPrefix}
+use Rattle.row_cells.specs.Lists.{IsPrefix}
 use Rattle.grid_map.specs.declared.cost.Weights.{Weights}
 use Rattle.grid_map.specs.Load.{AreWeights, HasFewest}
 use Rattle.epoch_tags.specs.declared.actor.Actor.{Actor}

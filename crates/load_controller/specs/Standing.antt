@@ -4,7 +4,7 @@ use Rattle.std.specs.Prelude.{None, Some, Option, List, [], ◌∷◌, ◌++◌,
 use Rattle.std.specs.Prelude.{slice_set}
 use Rattle.std.specs.Prelude.{if◌then◌else◌}
 use Rattle.std.specs.List.{find}
-use Rattle.join_rows.specs.Lists.{IsPrefix, counting_from}
+use Rattle.row_cells.specs.Lists.{IsPrefix, counting_from}
 use Rattle.grid_map.specs.declared.cost.Weights.{Weights}
 use Rattle.grid_map.specs.Load.{IsNear}
 use Rattle.epoch_tags.specs.declared.actor.Actor.{Actor}

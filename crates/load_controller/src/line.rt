@@ -1,6 +1,6 @@
 // The lines of a journal.
 
-use join_rows::Items;
+use row_cells::Items;
 
 /// Why a line was added: the message that it counts.
 #[derive(Clone, Copy, Debug, PartialEq, Eq)]

@@ -1,7 +1,7 @@
 -- One migration step: from a shift to a neighbouring one.
 use Rattle.std.specs.Prelude.{◌≡◌, ◌≢◌, ℕ, ◌+◌, ◌-◌, min, nat_lt, Bool, true, false, ◌⊎◌, List, [], ◌∷◌, if◌then◌else◌}
-use Rattle.join_rows.specs.declared.table.Side.{Side}
-use Rattle.join_rows.specs.declared.table.Side.TheVariants.{R, S}
+use Rattle.row_cells.specs.declared.table.Side.{Side}
+use Rattle.row_cells.specs.declared.table.Side.TheVariants.{R, S}
 use Rattle.epoch_tags.specs.declared.tuple.Tuple.{Tuple}
 use Rattle.grid_map.specs.Grid.{holds_r, holds_s, partner}
 

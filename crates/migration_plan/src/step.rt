@@ -6,7 +6,7 @@ ghost use Rattle.migration_plan.specs.Steps.{AreNeighbours};
 
 use epoch_tags::Tuple;
 use grid_map::{Shape, holds_r, holds_s, partner};
-use join_rows::Side;
+use row_cells::Side;
 
 /// The shift nearer to the goal by 1.
 pub fn next_step(shift: u32, goal: u32) -> u32

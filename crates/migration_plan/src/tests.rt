@@ -1,7 +1,7 @@
 use crate::{chain, exchanged_side, kept, low_of, next_step, partner_in_step};
 use epoch_tags::Tuple;
 use grid_map::Shape;
-use join_rows::{Cells, Side};
+use row_cells::{Cells, Side};
 use std::test::Fail;
 
 #[test]

@@ -3,9 +3,9 @@ use Rattle.std.proofs.Common.{◌≡◌, ◌<◌, ◌-◌, ◌^◌, min, ℕ, re
 use Rattle.std.specs.Prelude.{map, slice_index, slice_index_or, IsPermutation}
 use Rattle.std.specs.List.{range_with_len}
 use Rattle.std.proofs.lemmas.Option.{slice_get-get_or}
-use Rattle.join_rows.specs.Lists.{greatest}
-use Rattle.join_rows.proofs.Bags.{SameBag-permutation, SameBag-sym}
-use Rattle.join_rows.proofs.Totals.{total_same, greatest_same}
+use Rattle.row_cells.specs.Lists.{greatest}
+use Rattle.row_cells.proofs.Bags.{SameBag-permutation, SameBag-sym}
+use Rattle.row_cells.proofs.Totals.{total_same, greatest_same}
 use Rattle.epoch_tags.specs.declared.tuple.Pair.{Pair}
 use Rattle.pair_collector.specs.declared.collected.Collected.{Collected}
 use Rattle.pair_collector.specs.Kept.{Kept}

@@ -7,8 +7,8 @@ use Rattle.std.proofs.Math.Seq.{drop-append-add}
 use Rattle.std.proofs.lemmas.List.{get_or-map, length-append}
 use Rattle.std.proofs.lemmas.List.Sums.{sum_by-append}
 use Rattle.std.proofs.lemmas.Option.{slice_get-get_or}
-use Rattle.join_rows.specs.Lists.{IsPrefix, SameBag, gather, total}
-use Rattle.join_rows.proofs.Totals.{gather_same, sum-gather, total-add, total_same}
+use Rattle.row_cells.specs.Lists.{IsPrefix, SameBag, gather, total}
+use Rattle.row_cells.proofs.Totals.{gather_same, sum-gather, total-add, total_same}
 use Rattle.epoch_tags.specs.declared.tuple.Pair.{Pair}
 use Rattle.epoch_tags.specs.declared.message.ToCollector.{ToCollector}
 use Rattle.epoch_tags.specs.declared.message.ToCollector.TheVariants.{Found, Fin}

@@ -10,8 +10,8 @@ use Rattle.std.proofs.lemmas.List.{append-nil, set-get_or, set_past, get_or_read
 use Rattle.std.proofs.lemmas.Grind.{get_or-set_at, flat_map-append}
 use Rattle.std.proofs.lemmas.Option.{slice_get_within, get_or_from_slice_get, slice_get-get_or}
 use Rattle.std.proofs.lemmas.List.FromFn.{map-range_with_len_more}
-use Rattle.join_rows.specs.Lists.{SameBag, gather}
-use Rattle.join_rows.proofs.Bags.{SameBag-refl}
+use Rattle.row_cells.specs.Lists.{SameBag, gather}
+use Rattle.row_cells.proofs.Bags.{SameBag-refl}
 use Rattle.epoch_tags.specs.declared.actor.Actor.TheVariants.{Joiner}
 use Rattle.epoch_tags.specs.declared.tuple.Pair.{Pair}
 use Rattle.epoch_tags.specs.declared.message.ToCollector.{ToCollector}

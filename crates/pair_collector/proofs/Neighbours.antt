@@ -4,7 +4,7 @@ use Rattle.std.proofs.Common.{sym, is_lt, nat_cmp}
 use Rattle.std.specs.Prelude.{◌==◌, nat_lt}
 use Rattle.std.specs.Ordering.{ordering_then}
 use Rattle.std.proofs.lemmas.Bool.{cases_Bool, eqb-true, eqb-false, ltb-false}
-use Rattle.join_rows.proofs.Everywhere.{weaken}
+use Rattle.row_cells.proofs.Everywhere.{weaken}
 use Rattle.epoch_tags.specs.declared.tuple.Pair.{Pair}
 use Rattle.pair_collector.specs.Order.{IsBefore, InOrder}
 

@@ -1,7 +1,7 @@
 -- What the collector answers in the end.
 use Rattle.std.specs.Prelude.{◌≡◌, ℕ, ◌-◌, ◌^◌, min, List, map, length, slice_index, IsPermutation}
 use Rattle.std.specs.List.{range_with_len}
-use Rattle.join_rows.specs.Lists.{total, greatest}
+use Rattle.row_cells.specs.Lists.{total, greatest}
 use Rattle.epoch_tags.specs.Messages.{found_before_fin}
 use Rattle.pair_collector.specs.declared.collected.Collected.{Collected}
 use Rattle.pair_collector.specs.Law.{CollectorLists, CollectorLaw, pairs_taken}

@@ -1,6 +1,6 @@
 -- The pairs that were taken since the collector last gave some.
 use Rattle.std.specs.Prelude.{◌≡◌, ℕ, ◌<◌, List, length, drop, slice_index, slice_index_or}
-use Rattle.join_rows.specs.Lists.{gather}
+use Rattle.row_cells.specs.Lists.{gather}
 use Rattle.epoch_tags.specs.declared.tuple.Pair.{Pair}
 use Rattle.epoch_tags.specs.Messages.{found_before_fin}
 use Rattle.pair_collector.specs.Kept.{Kept}

@@ -1,6 +1,6 @@
 -- The law of the collector.
 use Rattle.std.specs.Prelude.{ℕ, ◌<◌, List}
-use Rattle.join_rows.specs.Lists.{SameBag, gather}
+use Rattle.row_cells.specs.Lists.{SameBag, gather}
 use Rattle.epoch_tags.specs.declared.tuple.Pair.{Pair}
 use Rattle.epoch_tags.specs.declared.message.ToCollector.{ToCollector}
 use Rattle.epoch_tags.specs.Messages.{found_before_fin, fins}

@@ -1,7 +1,7 @@
 // What a collector answers in the end.
 
 use epoch_tags::{Counts, Pairs};
-use join_rows::Items;
+use row_cells::Items;
 
 /// How many rows of each side a joiner holds.
 #[derive(Clone, Copy, Debug, PartialEq, Eq)]

@@ -1,7 +1,7 @@
 -- When the report of a run can be read back.
 use Rattle.std.specs.Prelude.{◌≡◌, ◌<◌, ◌≤◌, ◌^◌, ℕ, All, List, length}
 use Rattle.grid_map.specs.declared.shape.Shape.{Shape}
-use Rattle.join_rows.specs.declared.table.Side.TheVariants.{R, S}
+use Rattle.row_cells.specs.declared.table.Side.TheVariants.{R, S}
 use Rattle.load_controller.specs.declared.line.TurnLine.{TurnLine}
 use Rattle.pair_collector.specs.declared.collected.Held.{Held}
 use Rattle.trace_law.specs.declared.input.Input.{Input}

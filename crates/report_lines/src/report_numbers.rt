@@ -1,6 +1,6 @@
 // A report's numbers.
 
-use join_rows::Items;
+use row_cells::Items;
 
 /// A change of the grid: its rows and columns since, and how many rows moved.
 #[derive(Clone, Copy)]

@@ -1,5 +1,5 @@
 use crate::report_numbers::{Growth, Joiner, Report, Step};
-use join_rows::Items;
+use row_cells::Items;
 use std::alloc::{AllocError, Global};
 use std::test::Fail;
 

@@ -15,8 +15,8 @@ ghost use Rattle.report_picture.specs.Reading.{Entry, Final, Grid, Grow, Held, I
 ghost use Rattle.report_picture.specs.Reading.{line_of, nothing_yet as blank, taken, text_of};
 ghost use Rattle.report_picture.specs.Reading.{with_grid, with_step, words_of};
 
-use join_rows::Items;
 use report_lines::{Growth, Joiner, Joiners, Report, Step, Steps};
+use row_cells::Items;
 use std::alloc::{AllocError, Global};
 use std::{mem, str};
 

@@ -3,7 +3,7 @@ use Rattle.std.proofs.Common.{◌≡◌, ℕ, ◌+◌, ◌≤◌, refl, arith, L
 use Rattle.std.specs.Prelude.{map, filter, sum_by}
 use Rattle.std.proofs.lemmas.List.{length-map}
 use Rattle.std.proofs.lemmas.List.Sums.{sum_by-cons}
-use Rattle.join_rows.proofs.Totals.{filter_fewer}
+use Rattle.row_cells.proofs.Totals.{filter_fewer}
 use Rattle.epoch_tags.specs.declared.tuple.Tuple.{Tuple}
 use Rattle.epoch_tags.specs.declared.message.ToController.TheVariants.{Drained}
 use Rattle.epoch_tags.specs.declared.message.ToFeeder.{ToFeeder}

@@ -4,8 +4,8 @@ use Rattle.std.proofs.Common.{List, [], ◌∷◌, ◌++◌, drop, length, lengt
 use Rattle.std.proofs.lemmas.List.{append-nil, drop-drop}
 use Rattle.std.proofs.Math.Seq.{drop-nil}
 use Rattle.std.proofs.lemmas.Bool.{false≢true}
-use Rattle.join_rows.specs.Lists.{counting_from}
-use Rattle.join_rows.proofs.RisingNumbers.{counting-more}
+use Rattle.row_cells.specs.Lists.{counting_from}
+use Rattle.row_cells.proofs.RisingNumbers.{counting-more}
 use Rattle.epoch_tags.specs.declared.tuple.Tuple.{Tuple}
 use Rattle.epoch_tags.specs.declared.message.ToJoiner.TheVariants.{Turn, End}
 use Rattle.epoch_tags.specs.declared.message.ToFeeder.{ToFeeder}

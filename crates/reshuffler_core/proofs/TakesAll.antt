@@ -4,8 +4,8 @@ use Rattle.std.proofs.Common.{cond, List, [], ◌∷◌, ◌++◌, length, lengt
 use Rattle.std.specs.Prelude.{map, filter}
 use Rattle.std.proofs.lemmas.List.{append-nil}
 use Rattle.std.proofs.lemmas.Nat.{pow_pos}
-use Rattle.join_rows.specs.Lists.{IsPrefix, counting_from}
-use Rattle.join_rows.proofs.RisingNumbers.{at_place}
+use Rattle.row_cells.specs.Lists.{IsPrefix, counting_from}
+use Rattle.row_cells.proofs.RisingNumbers.{at_place}
 use Rattle.epoch_tags.specs.declared.tuple.Tuple.{Tuple}
 use Rattle.epoch_tags.specs.declared.message.ToController.{ToController}
 use Rattle.epoch_tags.specs.declared.message.ToController.TheVariants.{Ask, Drained, Settled}

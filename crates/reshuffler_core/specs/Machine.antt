@@ -5,7 +5,7 @@ use Rattle.epoch_tags.specs.declared.actor.Actor.TheVariants.{Feeder}
 use Rattle.epoch_tags.specs.declared.message.Post.{Post}
 use Rattle.epoch_tags.specs.declared.message.ToFeeder.{ToFeeder}
 use Rattle.epoch_tags.specs.declared.message.ToFeeder.TheVariants.{Order, Grant, Stop}
-use Rattle.join_rows.specs.Lists.{IsPrefix, counting_from}
+use Rattle.row_cells.specs.Lists.{IsPrefix, counting_from}
 use Rattle.epoch_tags.specs.Messages.{order_epochs, grants, stops, asks, draineds}
 use Rattle.epoch_tags.specs.Orders.{StopsLast}
 use Rattle.epoch_tags.specs.Posts.{AllGoOver, posted_to_controller}

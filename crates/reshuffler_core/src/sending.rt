@@ -8,7 +8,7 @@ ghost use Rattle.reshuffler_core.specs.Standing.{post_to, posts_to_all, posts_of
 
 use epoch_tags::{Actor, Msg, Post, Sends, ToController, ToJoiner, Tuple};
 use grid_map::{Shape, holds_r, holds_s};
-use join_rows::Side;
+use row_cells::Side;
 use std::alloc::AllocError;
 
 // The request for a batch, with its numbers of rows.

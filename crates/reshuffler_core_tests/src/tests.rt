@@ -1,6 +1,6 @@
 use epoch_tags::{Actor, Msg, Post, Sends, ToController, ToFeeder, ToJoiner, Tuple, Tuples};
-use join_rows::{Cells, Side};
 use reshuffler_core::Feeder;
+use row_cells::{Cells, Side};
 use std::alloc::{AllocError, Global};
 use std::process::Abort;
 use std::test::Fail;

@@ -1,7 +1,7 @@
 -- The controller sent the first feeder an order for each step of its journal.
 use Rattle.std.proofs.Common.{◌≡◌, ◌+◌, ◌-◌, ◌<◌, sym, ap, ◌∙◌, List, [], ◌∷◌, ◌++◌, length, reverse}
 use Rattle.std.proofs.lemmas.List.{reverse-append, reverse-reverse}
-use Rattle.join_rows.proofs.RisingNumbers.{length-counting_from}
+use Rattle.row_cells.proofs.RisingNumbers.{length-counting_from}
 use Rattle.epoch_tags.specs.Messages.{order_epochs}
 use Rattle.epoch_tags.specs.declared.actor.Actor.{Actor}
 use Rattle.load_controller.specs.Journal.{last_epoch}

@@ -1,6 +1,6 @@
 -- How many bouts a run over rings has.
 use Rattle.std.specs.Prelude.{ℕ, ◌+◌, ◌*◌, ◌^◌, filter_map, length}
-use Rattle.join_rows.specs.declared.table.Side.TheVariants.{R, S}
+use Rattle.row_cells.specs.declared.table.Side.TheVariants.{R, S}
 use Rattle.epoch_tags.specs.Messages.{order_epochs}
 use Rattle.epoch_tags.specs.Posts.{feeder_msg}
 use Rattle.epoch_tags.specs.declared.actor.Actor.{Actor}

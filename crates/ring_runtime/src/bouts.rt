@@ -1,7 +1,7 @@
 // A bout: turns of all seats side by side, and then the two ends of each ring held together.
 
 ghost use Rattle.std.specs.Prelude.{◌≡◌, ◌<◌, ◌⊎◌, ℕ, true, false, Ok, OnOk, OnErr, length, map, slice_index_or};
-ghost use Rattle.join_rows.specs.Lists.{IsPrefix};
+ghost use Rattle.row_cells.specs.Lists.{IsPrefix};
 ghost use Rattle.actor_core.specs.Families.{AreFronts};
 ghost use Rattle.actor_core.specs.Players.{AgreesOnLinks, Extends};
 ghost use Rattle.actor_core.specs.Tasks.{IsTask, Task};

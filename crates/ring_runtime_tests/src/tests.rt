@@ -2,8 +2,8 @@ mod runs;
 mod turns;
 
 use grid_map::Weights;
-use join_rows::{Bytes, Cell, Cells, Names, Rows, Table};
 use ring_runtime::{RingSeats, ring_bout};
+use row_cells::{Bytes, Cell, Cells, Names, Rows, Table};
 use row_tickets::Feed;
 use std::alloc::{AllocError, Global};
 use std::fmt::Debug;

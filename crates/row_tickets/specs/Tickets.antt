@@ -1,7 +1,7 @@
 -- A row's ticket: the top byte of a word of PCG's 32-bit generator (XSH RR, 64 bits of state).
 use Rattle.std.specs.Prelude.{ℕ, ◌/◌, ◌^◌}
-use Rattle.join_rows.specs.declared.table.Side.{Side}
-use Rattle.join_rows.specs.declared.table.Side.TheVariants.{R, S}
+use Rattle.row_cells.specs.declared.table.Side.{Side}
+use Rattle.row_cells.specs.declared.table.Side.TheVariants.{R, S}
 use Rattle.rand_pcg.specs.Lcg.{Lcg, advance, started, increment_of}
 use Rattle.rand_pcg.specs.Pcg.{multiplier_64, pcg32}
 

@@ -4,7 +4,7 @@ ghost use Rattle.std.specs.Prelude.{◌≡◌, ◌^◌, ◌<◌, ◌≤◌, ◌+
 ghost use Rattle.row_tickets.specs.Share.{share, share_of, both_at, indices};
 
 use crate::place::{Feed, Place, Share};
-use join_rows::Side;
+use row_cells::Side;
 use std::alloc::{AllocError, Global};
 
 /// The rows of feeder `p`: those whose index leaves `p` when divided by the number of feeders.

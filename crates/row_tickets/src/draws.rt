@@ -5,7 +5,7 @@ ghost use Rattle.std.specs.List.{range_with_len};
 ghost use Rattle.row_tickets.specs.Tickets.{ticket_of};
 
 use crate::generator::Tickets;
-use join_rows::{Bytes, Side};
+use row_cells::{Bytes, Side};
 use std::alloc::{AllocError, Global};
 
 /// The tickets of the first `count` rows of a side.

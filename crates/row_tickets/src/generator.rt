@@ -4,9 +4,9 @@ ghost use Rattle.std.specs.Prelude.{◌≡◌};
 ghost use Rattle.rand_pcg.specs.Pcg.{pcg32};
 ghost use Rattle.row_tickets.specs.Tickets.{top_byte, before_word};
 
-use join_rows::Side;
 use rand_core::utils::NextWord;
 use rand_pcg::Lcg64Xsh32;
+use row_cells::Side;
 use std::marker::Model;
 
 /// Draws the tickets of one side, one after another.

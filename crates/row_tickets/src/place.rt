@@ -1,6 +1,6 @@
 // A feeder's rows, named by their places in the tables.
 
-use join_rows::{Items, Side};
+use row_cells::{Items, Side};
 
 /// In which order a feeder takes its rows: by index with R before S at the same index, or all of
 /// one side before the other.

@@ -1,5 +1,5 @@
 use crate::{Feed, Place, Tickets, share, tickets};
-use join_rows::Side;
+use row_cells::Side;
 use std::test::Fail;
 
 #[test]

@@ -5,7 +5,7 @@ use mathlib.Core.Option.{some, some-ne-none}
 use lib.ListN.{get_elem?}
 use Rattle.crossbeam_queue.specs.Fifo.{Pushes, Pops, Forks, Merges, Learns, Held}
 use Rattle.crossbeam_queue.proofs.Lists.{at_set, at_snoc, at_last, set_else}
-use Rattle.join_rows.specs.Lists.{IsPrefix}
+use Rattle.row_cells.specs.Lists.{IsPrefix}
 use Rattle.epoch_tags.specs.declared.message.Envelope.{Envelope}
 use Rattle.ruled_links.specs.declared.rule.Hand.{Hand}
 use Rattle.ruled_links.specs.Order.{hand, Fits, IsInOrder}

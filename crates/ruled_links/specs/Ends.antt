@@ -1,6 +1,6 @@
 -- The two ends of a link, as contracts see them.
 use Rattle.std.specs.Prelude.{◌≡◌, ℕ, List, length}
-use Rattle.join_rows.specs.Lists.{IsPrefix}
+use Rattle.row_cells.specs.Lists.{IsPrefix}
 use Rattle.epoch_tags.specs.declared.actor.Actor.{Actor}
 use Rattle.epoch_tags.specs.declared.message.Envelope.{Envelope}
 

@@ -5,7 +5,7 @@ ghost use Rattle.ruled_links.specs.Inboxes.{Differ, fresh, opened};
 
 use crate::mailbox::{Inbox, Mouth};
 use epoch_tags::Actor;
-use join_rows::Items;
+use row_cells::Items;
 use std::alloc::{AllocError, Global};
 
 /// A list of actors.

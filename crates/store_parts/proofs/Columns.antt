@@ -1,7 +1,7 @@
 -- The key's columns lie in rows of the predicate's widths.
 use Rattle.std.proofs.Common.{◌≡◌, Option, Some, None, refl, sym, subst}
-use Rattle.join_rows.specs.declared.table.Side.{Side}
-use Rattle.join_rows.specs.declared.table.Side.TheVariants.{R, S}
+use Rattle.row_cells.specs.declared.table.Side.{Side}
+use Rattle.row_cells.specs.declared.table.Side.TheVariants.{R, S}
 use Rattle.epoch_tags.specs.declared.tuple.Tuple.{Tuple}
 use Rattle.theta_pred.specs.declared.atom.KeyAtom.{KeyAtom}
 use Rattle.theta_pred.specs.Formula.{Meaning}

@@ -12,8 +12,8 @@ use Rattle.std.proofs.lemmas.List.Sums.{length-filter, sum_by-cons}
 use Rattle.std.proofs.lemmas.List.Elements.{All-cons, All-contains, All-tail, Contains-append_left, Contains-push}
 use Rattle.std.proofs.lemmas.List.Elements.{filter_map-append}
 use Rattle.std.proofs.lemmas.Option.{slice_get_cases, slice_get_within, get_or_from_slice_get}
-use Rattle.join_rows.specs.declared.table.Side.{Side}
-use Rattle.join_rows.specs.declared.table.Side.TheVariants.{R, S}
+use Rattle.row_cells.specs.declared.table.Side.{Side}
+use Rattle.row_cells.specs.declared.table.Side.TheVariants.{R, S}
 use Rattle.epoch_tags.specs.declared.tuple.Tuple.{Tuple}
 use Rattle.epoch_tags.specs.declared.tuple.Pair.{Pair}
 use Rattle.theta_pred.specs.declared.atom.KeyAtom.{KeyAtom}
@@ -29,7 +29,7 @@ use Rattle.store_parts.specs.Matches.{matches, AppendsFront}
 use Rattle.store_parts.specs.Evaluated.{stands_by}
 use Rattle.store_parts.proofs.Keys.{band_is_key, no_key, at_places_by}
 use Rattle.store_parts.proofs.OneMoreTuple.{matches-append, take_one, count_by-append}
-use Rattle.join_rows.proofs.Bags.{sum-same}
+use Rattle.row_cells.proofs.Bags.{sum-same}
 use Rattle.theta_pred.proofs.KeyMembers.{and_left}
 
 -- ---- sums over filters

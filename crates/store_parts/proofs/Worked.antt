@@ -1,10 +1,10 @@
 -- Worked rows: two rows of R that probe a store of three rows of S by the key of a band.
 use Rattle.std.specs.Prelude.{◌≡◌, ℕ, pos, neg_ℤ, false, Option, Some, None, List, [], ◌∷◌, codes, count_by, refl}
 use Rattle.std.proofs.Common.{ap}
-use Rattle.join_rows.specs.Numbers.{number_of}
-use Rattle.join_rows.specs.Records.{cell_of}
-use Rattle.join_rows.specs.declared.table.Side.{Side}
-use Rattle.join_rows.specs.declared.table.Side.TheVariants.{R, S}
+use Rattle.row_cells.specs.Numbers.{number_of}
+use Rattle.row_cells.specs.Cells.{cell_of}
+use Rattle.row_cells.specs.declared.table.Side.{Side}
+use Rattle.row_cells.specs.declared.table.Side.TheVariants.{R, S}
 use Rattle.epoch_tags.specs.declared.tuple.Tuple.{Tuple}
 use Rattle.theta_pred.specs.declared.atom.KeyAtom.{KeyAtom}
 use Rattle.theta_pred.specs.declared.agree.Access.{Access}

@@ -3,9 +3,9 @@ use Rattle.std.specs.Prelude.{◌≡◌, ℕ, ◌+◌, ◌*◌, ◌%◌, ◌^◌
 use Rattle.std.specs.Prelude.{◌∷◌, option_map, not, ◌&&◌}
 use Rattle.std.specs.Prelude.{option_and_then, if◌then◌else◌}
 use Rattle.std.specs.Int.{int_wrapping_add, int_wrapping_mul, w128}
-use Rattle.join_rows.specs.declared.table.Cell.{Cell}
-use Rattle.join_rows.specs.declared.table.Side.{Side}
-use Rattle.join_rows.specs.declared.table.Side.TheVariants.{R, S}
+use Rattle.row_cells.specs.declared.table.Cell.{Cell}
+use Rattle.row_cells.specs.declared.table.Side.{Side}
+use Rattle.row_cells.specs.declared.table.Side.TheVariants.{R, S}
 use Rattle.epoch_tags.specs.declared.tuple.Tuple.{Tuple}
 use Rattle.theta_pred.specs.declared.agree.Access.{Access}
 use Rattle.theta_pred.specs.declared.agree.Interval.{Interval}

@@ -1,7 +1,7 @@
 -- The index of a side's tuples.
 use Rattle.std.specs.Prelude.{ℕ, ℤ, Option, Some, None, List, map, All}
 use Rattle.smallvec.specs.SmallVec.{SmallVec}
-use Rattle.join_rows.specs.declared.table.Side.{Side}
+use Rattle.row_cells.specs.declared.table.Side.{Side}
 use Rattle.epoch_tags.specs.declared.tuple.Tuple.{Tuple}
 use Rattle.theta_pred.specs.declared.atom.KeyAtom.{KeyAtom}
 use Rattle.theta_pred.specs.declared.agree.Access.{Access}

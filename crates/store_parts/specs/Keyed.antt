@@ -1,8 +1,8 @@
 -- The key of a store: the values of its tuples, and what a probe by the key is left to evaluate.
 use Rattle.std.specs.Prelude.{◌≡◌, ℕ, ℤ, ◌+ℤ◌, ◌-ℤ◌, Bool, Option, Some, None, List, length, map, filter_map, slice_get}
 use Rattle.std.specs.Prelude.{option_map, ⊤}
-use Rattle.join_rows.specs.declared.table.Side.{Side}
-use Rattle.join_rows.specs.declared.table.Side.TheVariants.{R, S}
+use Rattle.row_cells.specs.declared.table.Side.{Side}
+use Rattle.row_cells.specs.declared.table.Side.TheVariants.{R, S}
 use Rattle.epoch_tags.specs.declared.tuple.Tuple.{Tuple}
 use Rattle.theta_pred.specs.declared.atom.KeyAtom.{KeyAtom}
 use Rattle.theta_pred.specs.declared.atom.Part.{Part}

@@ -7,7 +7,7 @@ ghost use Rattle.theta_pred.specs.Keys.{atom_of, is_atom_true, is_from, is_up_to
 ghost use Rattle.theta_pred.specs.Sizes.{IsAtMost};
 
 use epoch_tags::Tuple;
-use join_rows::{Cells, Side};
+use row_cells::{Cells, Side};
 use theta_pred::KeyAtom;
 
 pub(crate) fn difference(value: i128, bound: i128) -> i128

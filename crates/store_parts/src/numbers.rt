@@ -20,7 +20,7 @@ ghost use Rattle.theta_pred.specs.TextAtoms.{text_at};
 
 use crate::band::{difference, is_true_of};
 use epoch_tags::Tuple;
-use join_rows::{Cells, Side};
+use row_cells::{Cells, Side};
 use theta_pred::{Access, Alone, Range, Same};
 
 // The text of a row in a column, empty where it has no such column.

@@ -25,7 +25,7 @@ use crate::value_windows::{
     clamped, hash_of, high_at, interval_windows, low_at, only, span_windows, stand,
 };
 use epoch_tags::Tuple;
-use join_rows::Side;
+use row_cells::Side;
 use smallvec::SmallVec;
 use std::alloc::{AllocError, Global};
 use theta_pred::{Access, Interval, KeyAtom, Range};

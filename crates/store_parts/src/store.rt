@@ -19,7 +19,7 @@ use crate::probe::by_access::seek_by;
 use crate::probe::by_key::{find_keyed, seek, sift};
 use crate::probe::found_pairs::{find_each, scan};
 use epoch_tags::{Pairs, Tuple, Tuples};
-use join_rows::Side;
+use row_cells::Side;
 use std::alloc::{AllocError, Global};
 use std::marker::{Brand, Model};
 use std::sync::ledger::{Blank, Ledger};
@@ -37,7 +37,7 @@ pub struct Store {
 
 impl Model for Store {
     ghost use Rattle.std.specs.Coded.{codes};
-    ghost use Rattle.join_rows.specs.declared.table.Side.TheVariants.{R, S};
+    ghost use Rattle.row_cells.specs.declared.table.Side.TheVariants.{R, S};
     ghost use Rattle.theta_pred.specs.FormulaCode.{formula_code};
     ghost use Rattle.store_parts.specs.Indexed.{IsIndexed};
     ghost use Rattle.store_parts.specs.Stored.{Stored, AreSided};

@@ -8,7 +8,7 @@ ghost use Rattle.theta_pred.specs.Sizes.{IsAtMost};
 
 use crate::band::{greatest, least};
 use crate::places::{Window, Windows};
-use join_rows::Side;
+use row_cells::Side;
 use smallvec::SmallVec;
 use std::alloc::{AllocError, Global};
 use theta_pred::{Interval, KeyAtom};

@@ -13,8 +13,8 @@ ghost use Rattle.store_parts.specs.Accessed.{IsOwnAccess};
 ghost use Rattle.store_parts.specs.Keyed.{IsOwn};
 ghost use Rattle.store_parts.specs.Stored.{HaveWidths};
 
-use join_rows::{Bytes, Names};
 use probes::find;
+use row_cells::{Bytes, Names};
 use rows::filled;
 use std::alloc::{AllocError, Global};
 use std::process::Abort;

@@ -6,9 +6,9 @@ use Rattle.std.proofs.lemmas.List.Folds.{list_all-append}
 use Rattle.std.proofs.lemmas.Option.{none-some}
 use Rattle.std.proofs.lemmas.Slice.Eq.{bytes_eq-Decides}
 use Rattle.theta_tree.specs.declared.tree.Op.TheVariants.{Eq, Ne, Lt, Le, Gt, Ge}
-use Rattle.join_rows.specs.declared.table.Cell.{Cell}
-use Rattle.join_rows.specs.declared.table.Side.{Side}
-use Rattle.join_rows.specs.declared.table.Side.TheVariants.{R, S}
+use Rattle.row_cells.specs.declared.table.Cell.{Cell}
+use Rattle.row_cells.specs.declared.table.Side.{Side}
+use Rattle.row_cells.specs.declared.table.Side.TheVariants.{R, S}
 use Rattle.theta_pred.specs.declared.text_atom.TextAtom.{TextAtom}
 use Rattle.theta_pred.specs.declared.tree.Text.TheVariants as texts'
 use Rattle.theta_pred.specs.Accesses.{Agreement, alone, texts, agreement_in, agrees, agree_in_all, own_in, of_sums}

@@ -8,8 +8,8 @@ use Rattle.std.proofs.lemmas.Int.{ints}
 use Rattle.std.proofs.lemmas.Option.{none-some}
 use Rattle.theta_tree.specs.declared.tree.Op.{Op}
 use Rattle.theta_tree.specs.declared.tree.Op.TheVariants.{Eq, Ne, Lt, Le, Gt, Ge}
-use Rattle.join_rows.specs.declared.table.Cell.{Cell}
-use Rattle.join_rows.specs.declared.table.Side.TheVariants.{R, S}
+use Rattle.row_cells.specs.declared.table.Cell.{Cell}
+use Rattle.row_cells.specs.declared.table.Side.TheVariants.{R, S}
 use Rattle.theta_pred.specs.declared.kind.Kind.{Kind}
 use Rattle.theta_pred.specs.declared.kind.Kind.TheVariants.{Equality, Band, Inequality}
 use Rattle.theta_pred.specs.declared.tree.SignedTerm.{SignedTerm}

@@ -4,7 +4,7 @@ use Rattle.std.specs.Prelude.{map, option_map}
 use Rattle.std.specs.Option.{ForSome}
 use Rattle.std.proofs.Props.{props}
 use Rattle.std.specs.Coded.{×_prop}
-use Rattle.join_rows.specs.declared.table.Side.{Side}
+use Rattle.row_cells.specs.declared.table.Side.{Side}
 use Rattle.theta_pred.specs.declared.agree.Access.{Access}
 use Rattle.theta_pred.specs.declared.agree.Alone.{Alone as Alone'}
 use Rattle.theta_pred.specs.declared.agree.Interval.{Interval as Interval'}

@@ -3,7 +3,7 @@ use Rattle.std.proofs.Common.{◌≡◌, ℕ, suc, ◌+◌, ◌<◌, ◌*◌, Li
 use Rattle.std.proofs.Common.{sym, ◌∙◌, ap, arith, add-one}
 use Rattle.std.proofs.Math.Seq.{drop-cons}
 use Rattle.std.proofs.lemmas.Int.{ints}
-use Rattle.join_rows.specs.declared.table.Cell.{Cell}
+use Rattle.row_cells.specs.declared.table.Cell.{Cell}
 use Rattle.theta_pred.specs.declared.tree.SignedTerm.{SignedTerm}
 use Rattle.theta_pred.specs.Sizes.{IsAtMost}
 use Rattle.theta_pred.specs.Sums.{plus, signed_of, sum_of}

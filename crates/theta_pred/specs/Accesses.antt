@@ -6,9 +6,9 @@ use Rattle.std.specs.Prelude.{option_map, option_to_list, not, ◌&&◌, ◌||�
 use Rattle.std.specs.List.{list_all, AllByRecursion}
 use Rattle.std.specs.Str.{bytes_eq}
 use Rattle.theta_tree.specs.declared.tree.Op.TheVariants.{Eq}
-use Rattle.join_rows.specs.declared.table.Cell.{Cell}
-use Rattle.join_rows.specs.declared.table.Side.{Side}
-use Rattle.join_rows.specs.declared.table.Side.TheVariants.{R, S}
+use Rattle.row_cells.specs.declared.table.Cell.{Cell}
+use Rattle.row_cells.specs.declared.table.Side.{Side}
+use Rattle.row_cells.specs.declared.table.Side.TheVariants.{R, S}
 use Rattle.theta_pred.specs.declared.agree.Access.{Access}
 use Rattle.theta_pred.specs.declared.agree.Range.{Range}
 use Rattle.theta_pred.specs.declared.agree.Range.TheVariants.{Span, Interval}

@@ -1,6 +1,6 @@
 -- Sums of columns of one side, over a row.
 use Rattle.std.specs.Prelude.{ℕ, ◌<◌, List, [], ◌∷◌, ℤ, pos, Option, Some, option_and_then, option_map, slice_get, All}
-use Rattle.join_rows.specs.declared.table.Cell.{Cell}
+use Rattle.row_cells.specs.declared.table.Cell.{Cell}
 use Rattle.theta_pred.specs.declared.atom.Part.{Part}
 use Rattle.theta_pred.specs.Sums.{with_sign, plus}
 

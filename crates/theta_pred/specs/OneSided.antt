@@ -1,7 +1,7 @@
 -- Which columns a predicate names, and its truth of a row where it names those of one side alone.
 use Rattle.std.specs.Prelude.{Bool, false, ◌||◌, List, []}
-use Rattle.join_rows.specs.declared.table.Cell.{Cell}
-use Rattle.join_rows.specs.declared.table.Side.{Side}
+use Rattle.row_cells.specs.declared.table.Cell.{Cell}
+use Rattle.row_cells.specs.declared.table.Side.{Side}
 use Rattle.theta_pred.specs.declared.tree.Text.{Text}
 use Rattle.theta_pred.specs.declared.tree.Text.TheVariants as texts'
 use Rattle.theta_pred.specs.Formula.{Formula, any, every, negation, num, band, txt, Formulas, no_formula, formula}

@@ -1,7 +1,7 @@
 -- Whether a predicate says no more than the agreements of its access.
 use Rattle.std.specs.Prelude.{Bool, true, false, not, ◌&&◌, ◌||◌, is_some}
 use Rattle.theta_tree.specs.declared.tree.Op.TheVariants.{Eq}
-use Rattle.join_rows.specs.declared.table.Side.TheVariants.{R, S}
+use Rattle.row_cells.specs.declared.table.Side.TheVariants.{R, S}
 use Rattle.theta_pred.specs.declared.tree.Text.TheVariants as texts'
 use Rattle.theta_pred.specs.Formula.{Formula, every, num, txt, Formulas, no_formula, formula}
 use Rattle.theta_pred.specs.Keys.{splits}

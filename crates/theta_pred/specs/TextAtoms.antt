@@ -1,8 +1,8 @@
 -- The columns of an equality of a text of R and one of S, and the text of a column.
 use Rattle.std.specs.Prelude.{ℕ, List, Option, Some, None, slice_get}
-use Rattle.join_rows.specs.declared.table.Cell.{Cell}
-use Rattle.join_rows.specs.declared.table.Side.{Side}
-use Rattle.join_rows.specs.declared.table.Side.TheVariants.{R, S}
+use Rattle.row_cells.specs.declared.table.Cell.{Cell}
+use Rattle.row_cells.specs.declared.table.Side.{Side}
+use Rattle.row_cells.specs.declared.table.Side.TheVariants.{R, S}
 use Rattle.theta_pred.specs.declared.text_atom.TextAtom.{TextAtom}
 use Rattle.theta_pred.specs.declared.tree.Column.{Column}
 use Rattle.theta_pred.specs.Sums.{text_in}

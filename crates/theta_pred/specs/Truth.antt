@@ -4,8 +4,8 @@ use Rattle.std.specs.Prelude.{option_map, unsigned_abs}
 use Rattle.std.specs.Ordering.{is_eq, is_lt, is_gt, is_le, is_ge, int_cmp, nat_cmp}
 use Rattle.std.specs.declared.cmp.Ordering.{Ordering}
 use Rattle.std.specs.Cmp.Lexicographic.{slice_cmp}
-use Rattle.join_rows.specs.declared.table.Cell.{Cell}
-use Rattle.join_rows.specs.declared.table.Side.{Side}
+use Rattle.row_cells.specs.declared.table.Cell.{Cell}
+use Rattle.row_cells.specs.declared.table.Side.{Side}
 use Rattle.theta_tree.specs.declared.tree.Op.{Op}
 use Rattle.theta_tree.specs.declared.tree.Op.TheVariants.{Eq, Ne, Lt, Le, Gt, Ge}
 use Rattle.theta_pred.specs.Formula.{Formula, any, every, negation, num, band, txt, Formulas, no_formula, formula}

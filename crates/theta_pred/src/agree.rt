@@ -7,7 +7,7 @@ ghost use Rattle.theta_pred.specs.Sizes.{IsAtMost};
 use crate::atom::{KeyAtom, Linear};
 use crate::text_atom::TextAtom;
 use crate::theta::Theta;
-use join_rows::{Items, Side};
+use row_cells::{Items, Side};
 use std::alloc::{AllocError, Global};
 
 /// A sum of R and a sum of S that agree where the first is so much above the second.

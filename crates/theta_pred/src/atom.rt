@@ -4,7 +4,7 @@ ghost use Rattle.std.specs.Prelude.{◌≡◌, ◌≤◌, ◌^◌, length, IfOk,
 ghost use Rattle.std.specs.Option.{ForSome};
 ghost use Rattle.theta_pred.specs.Sizes.{IsAtMost};
 
-use join_rows::{Cells, Items};
+use row_cells::{Cells, Items};
 use std::alloc::AllocError;
 
 /// A column of one side with its sign, its place counted from 0.

@@ -3,7 +3,7 @@
 ghost use Rattle.std.specs.Prelude.{◌≡◌};
 ghost use Rattle.theta_pred.specs.declared.fault.ResolveFault.TheVariants.{Memory};
 
-use join_rows::{Bytes, Side};
+use row_cells::{Bytes, Side};
 use std::alloc::{AllocError, AllocFailed};
 use thiserror::Error;
 

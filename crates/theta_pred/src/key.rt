@@ -26,7 +26,7 @@ use crate::bounds::{band_high, band_low, constant, constant_apart, num_high, num
 use crate::kind::Kind;
 use crate::numeric::place_of;
 use crate::tree::{SignedTerm, Tree};
-use join_rows::Side;
+use row_cells::Side;
 use std::alloc::{AllocError, Global};
 use theta_tree::Op;
 

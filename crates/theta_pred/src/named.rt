@@ -9,7 +9,7 @@ ghost use Rattle.theta_pred.specs.Sums.{of_side};
 
 use crate::fault::ResolveFault;
 use crate::tree::Column;
-use join_rows::{Bytes, Names, Side};
+use row_cells::{Bytes, Names, Side};
 use theta_tree::Name;
 
 // How often a word stands among names.

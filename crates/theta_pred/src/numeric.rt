@@ -7,7 +7,7 @@ ghost use Rattle.theta_pred.specs.Sound.{IsSound};
 ghost use Rattle.theta_pred.specs.Sums.{of_side};
 
 use crate::tree::{Column, Columns, Number, SignedTerms, Tree};
-use join_rows::Side;
+use row_cells::Side;
 use std::alloc::{AllocError, Global};
 
 // The places of a side's columns that stand in a sum.

@@ -1,14 +1,14 @@
 // Which columns a tree names.
 
 ghost use Rattle.std.specs.Prelude.{◌≡◌};
-ghost use Rattle.join_rows.specs.declared.table.Side.TheVariants.{R as R', S as S'};
+ghost use Rattle.row_cells.specs.declared.table.Side.TheVariants.{R as R', S as S'};
 ghost use Rattle.theta_pred.specs.Formula.{formula_of};
 ghost use Rattle.theta_pred.specs.OneSided.{names, text_names};
 ghost use Rattle.theta_pred.specs.Sums.{of_side};
 
 use crate::key::names_side;
 use crate::tree::{Text, Tree};
-use join_rows::Side;
+use row_cells::Side;
 
 // The other side.
 pub(crate) fn other_of(side: Side) -> Side

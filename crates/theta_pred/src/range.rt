@@ -19,7 +19,7 @@ ghost use Rattle.theta_pred.specs.Spans.{bound_above, bound_below, do_enclose, f
 use crate::agree::{Interval, Range};
 use crate::atom::KeyAtom;
 use crate::spans::{first_met, met_with, parts_on, same_parts, same_test, upright};
-use join_rows::Side;
+use row_cells::Side;
 use std::alloc::{AllocError, Global};
 
 // Whether a test has one bound only.

@@ -11,7 +11,7 @@ use crate::fault::ResolveFault;
 use crate::terms::{resolved_terms, resolved_text};
 use crate::theta::Theta;
 use crate::tree::Tree;
-use join_rows::Names;
+use row_cells::Names;
 use std::alloc::Global;
 use theta_tree::{Op, Pred, Sum, TextSide};
 

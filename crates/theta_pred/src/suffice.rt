@@ -9,7 +9,7 @@ use crate::key::do_split;
 use crate::one_sided::names;
 use crate::text_atom::of_columns;
 use crate::tree::{Text, Tree};
-use join_rows::Side;
+use row_cells::Side;
 use theta_tree::Op;
 
 // Whether a tree is an equality of both sides.

@@ -5,7 +5,7 @@ ghost use Rattle.theta_pred.specs.Sums.{cell_at, number_of, signed_of, sum_of, t
 ghost use Rattle.theta_pred.specs.Sizes.{IsAtMost};
 
 use crate::tree::{Column, Number, SignedTerm, SignedTerms, Text};
-use join_rows::{Cell, Cells, Side};
+use row_cells::{Cell, Cells, Side};
 
 // The cell of a row at a place, where it has one.
 fn cell_in(row: &Cells, place: u64) -> Option<&Cell>

@@ -8,7 +8,7 @@ ghost use Rattle.theta_pred.specs.Sound.{IsNumberWithin, IsTextWithin, AreWithin
 use crate::fault::ResolveFault;
 use crate::named::resolved_name;
 use crate::tree::{Number, SignedTerm, SignedTerms, Text};
-use join_rows::Names;
+use row_cells::Names;
 use std::alloc::Global;
 use theta_tree::{Sum, Term, TextSide};
 

@@ -4,7 +4,7 @@ ghost use Rattle.std.specs.Prelude.{◌≡◌};
 ghost use Rattle.theta_pred.specs.TextAtoms;
 
 use crate::tree::Column;
-use join_rows::Side;
+use row_cells::Side;
 
 /// The columns of an equality of two texts, one of R and one of S, by their places counted from 0.
 #[derive(Clone, Copy, Debug, PartialEq, Eq)]

@@ -19,7 +19,7 @@ use crate::numeric::numeric_places;
 use crate::suffice::{agreements_suffice, suffice_law};
 use crate::tree::{Columns, Tree};
 use crate::truth::is_true;
-use join_rows::{Cells, Side};
+use row_cells::{Cells, Side};
 use std::alloc::{AllocError, Global};
 use std::marker::Model;
 

@@ -1,6 +1,6 @@
 // The tree of a predicate over the places of columns.
 
-use join_rows::{Bytes, Items, Side};
+use row_cells::{Bytes, Items, Side};
 use theta_tree::Op;
 
 /// A column, by its side and its place in the header, counted from 0.

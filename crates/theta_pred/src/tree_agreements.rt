@@ -23,7 +23,7 @@ use crate::one_sided::{names, other_of};
 use crate::text_atom::of_columns;
 use crate::theta::Theta;
 use crate::tree::{SignedTerm, Text, Tree};
-use join_rows::Side;
+use row_cells::Side;
 use std::alloc::{AllocError, Global};
 use theta_tree::Op;
 

@@ -11,7 +11,7 @@ use crate::key::{atom_in, is_of_kind};
 use crate::kind::Kind;
 use crate::spans::upright;
 use crate::tree::Tree;
-use join_rows::Side;
+use row_cells::Side;
 use std::alloc::{AllocError, Global};
 
 // Appends what a tree says of two sums, where it is a test of this kind.

@@ -8,7 +8,7 @@ ghost use Rattle.theta_pred.specs.Truth;
 
 use crate::sums::{sum, text};
 use crate::tree::{SignedTerms, Text, Tree};
-use join_rows::Cells;
+use row_cells::Cells;
 use std::cmp::Ordering;
 use theta_tree::Op;
 

@@ -13,7 +13,7 @@ ghost use Rattle.theta_tree.specs.Sizes.{longest_sum as longest_sum'};
 
 use self::predicates::{apart, band, compared, either, negated, text_below};
 use self::texts::{is_told, over_x_and_a};
-use join_rows::{Bytes, Cell, Cells, Names, Side};
+use row_cells::{Bytes, Cell, Cells, Names, Side};
 use std::alloc::{AllocError, Global};
 use std::process::Abort;
 use std::test::Fail;

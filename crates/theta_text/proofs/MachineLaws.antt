@@ -13,7 +13,7 @@ use Rattle.theta_tree.specs.declared.tree.TextSide.{TextSide}
 use Rattle.theta_tree.specs.declared.tree.TextSide.TheVariants.{Lit}
 use Rattle.theta_tree.specs.declared.tree.TextSide.TheVariants as texts
 use Rattle.theta_tree.specs.declared.tree.Name.{Name}
-use Rattle.join_rows.specs.declared.table.Side.TheVariants as sides
+use Rattle.row_cells.specs.declared.table.Side.TheVariants as sides
 use Rattle.theta_tree.specs.Grammar.{Tree, any, every, negation, num, band, txt, Limits, Further, joined, IsAnd, IsOr}
 use Rattle.theta_tree.specs.Grammar.{Conj, FieldText, DotText, NameText, TermText, FurtherTerms, FirstText, SumText}
 use Rattle.theta_tree.specs.Grammar.{OpText, NumTest, BoundText, BandRest, ColumnText, SideText, TxtTest, Unit'}

@@ -9,7 +9,7 @@ use Rattle.theta_tree.specs.declared.tree.Op.TheVariants.{Eq}
 use Rattle.theta_tree.specs.declared.tree.Signed.{Signed}
 use Rattle.theta_tree.specs.declared.tree.Term.TheVariants.{Const}
 use Rattle.theta_tree.specs.declared.tree.TextSide.TheVariants.{Lit}
-use Rattle.join_rows.specs.declared.table.Side.TheVariants as sides
+use Rattle.row_cells.specs.declared.table.Side.TheVariants as sides
 use Rattle.theta_tree.specs.Grammar.{Tree, any, every, num, Limits, Further, joined, IsOr, Conj, SumText, NumTest}
 use Rattle.theta_tree.specs.Grammar.{Unit', Reads, AreSpelled, IsOpen}
 use Rattle.theta_tree.specs.Tokens.{number_of, Spells}

@@ -13,7 +13,7 @@ use Rattle.theta_text.specs.Machine.{op, bound, side, small, step, Verdict, wron
 use Rattle.theta_tree.specs.declared.fault.PredFault.{PredFault}
 use Rattle.theta_text.specs.declared.parser.units.Start.TheVariants.{StartNot, StartOpen, StartBand, StartTxt, StartNum}
 use Rattle.std.proofs.Common.{Some}
-use Rattle.join_rows.specs.declared.table.Side.{Side}
+use Rattle.row_cells.specs.declared.table.Side.{Side}
 use Rattle.theta_text.specs.Starts.{unit_start, named_side, is_text}
 use Rattle.theta_tree.specs.Faults.{words}
 use Rattle.theta_tree.specs.Texts.{limits}

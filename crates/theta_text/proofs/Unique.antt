@@ -10,7 +10,7 @@ use Rattle.theta_tree.specs.declared.tree.Term.{Term}
 use Rattle.theta_tree.specs.declared.tree.Term.TheVariants.{Col}
 use Rattle.theta_tree.specs.declared.tree.TextSide.TheVariants.{Lit}
 use Rattle.theta_tree.specs.declared.tree.TextSide.TheVariants as texts
-use Rattle.join_rows.specs.declared.table.Side.TheVariants as sides
+use Rattle.row_cells.specs.declared.table.Side.TheVariants as sides
 use Rattle.theta_tree.specs.Grammar.{Tree, Trees, any, every, negation, num, band, txt, Limits, Part, Further, joined}
 use Rattle.theta_tree.specs.Grammar.{Chain, IsAnd, IsOr, Conj, Predicate, FieldText, DotText, NameText, TermText}
 use Rattle.theta_tree.specs.Grammar.{FurtherTerms, FirstText, SumText, OpText, NumTest, BandRest, ColumnText, SideText}

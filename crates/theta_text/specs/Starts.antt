@@ -3,8 +3,8 @@ use Rattle.std.specs.Prelude.{Option, Some, None, Bool, true, false}
 use Rattle.theta_tree.specs.declared.token.Token.{Token}
 use Rattle.theta_tree.specs.declared.token.Token.TheVariants.{Word, Literal, Open}
 use Rattle.theta_tree.specs.declared.token.Keyword.TheVariants.{Not, Abs, Text, R, S}
-use Rattle.join_rows.specs.declared.table.Side.{Side}
-use Rattle.join_rows.specs.declared.table.Side.TheVariants as sides
+use Rattle.row_cells.specs.declared.table.Side.{Side}
+use Rattle.row_cells.specs.declared.table.Side.TheVariants as sides
 use Rattle.theta_text.specs.declared.parser.units.Start.{Start}
 use Rattle.theta_text.specs.declared.parser.units.Start.TheVariants.{StartNot, StartOpen, StartBand, StartTxt, StartNum}
 

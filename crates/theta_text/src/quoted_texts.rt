@@ -4,7 +4,7 @@ ghost use Rattle.std.specs.Prelude.{◌≡◌, ◌≤◌, length, IfOk, IfSome};
 ghost use Rattle.theta_text.specs.Front.{quoted_len};
 ghost use Rattle.theta_text.specs.Kinds.{unquoted};
 
-use join_rows::Bytes;
+use row_cells::Bytes;
 use std::alloc::{AllocError, Global};
 
 // How many bytes there are up to the last possible closing quote and with it.

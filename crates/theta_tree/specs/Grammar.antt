@@ -13,7 +13,7 @@ use Rattle.theta_tree.specs.declared.tree.TextSide.{TextSide}
 use Rattle.theta_tree.specs.declared.tree.TextSide.TheVariants.{Lit}
 use Rattle.theta_tree.specs.declared.tree.TextSide.TheVariants as texts
 use Rattle.theta_tree.specs.declared.tree.Name.{Name}
-use Rattle.join_rows.specs.declared.table.Side.TheVariants as sides
+use Rattle.row_cells.specs.declared.table.Side.TheVariants as sides
 use Rattle.theta_tree.specs.Tokens.{Spells, number_of}
 
 mutual

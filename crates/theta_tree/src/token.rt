@@ -1,7 +1,7 @@
 // The tokens of a text.
 
 use crate::tree::Op;
-use join_rows::Bytes;
+use row_cells::Bytes;
 
 /// What a word means in the grammar.
 #[derive(Clone, Copy, Debug, PartialEq, Eq)]

@@ -1,6 +1,6 @@
 // The tree of a predicate over the columns of two tables.
 
-use join_rows::{Bytes, Items, Side};
+use row_cells::{Bytes, Items, Side};
 
 /// A predicate. `Or` and `And` have two or more members.
 #[derive(Drop)]

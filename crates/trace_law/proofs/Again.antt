@@ -5,13 +5,13 @@ use Rattle.std.specs.Prelude.{map, filter, sum_by, not}
 use Rattle.std.specs.List.{AllByRecursion}
 use Rattle.std.proofs.lemmas.Bool.{lt-ltb, ltb-true, le-leb}
 use Rattle.std.proofs.lemmas.List.Sums.{sum_by-append}
-use Rattle.join_rows.specs.declared.table.Side.{Side}
-use Rattle.join_rows.specs.declared.table.Side.TheVariants.{R, S}
-use Rattle.join_rows.specs.Lists.{SameBag, gather, counting_from, total}
-use Rattle.join_rows.proofs.Bags.{only_if, sum-same, sum-filter, sum_of_map}
-use Rattle.join_rows.proofs.Within.{none_fails}
-use Rattle.join_rows.proofs.Everywhere.{weaken, all-append, all-gather, both_hold}
-use Rattle.join_rows.proofs.Totals.{total_same, total-zero, total-add, sum-gather, sum_same_on, greatest_above}
+use Rattle.row_cells.specs.declared.table.Side.{Side}
+use Rattle.row_cells.specs.declared.table.Side.TheVariants.{R, S}
+use Rattle.row_cells.specs.Lists.{SameBag, gather, counting_from, total}
+use Rattle.row_cells.proofs.Bags.{only_if, sum-same, sum-filter, sum_of_map}
+use Rattle.row_cells.proofs.Within.{none_fails}
+use Rattle.row_cells.proofs.Everywhere.{weaken, all-append, all-gather, both_hold}
+use Rattle.row_cells.proofs.Totals.{total_same, total-zero, total-add, sum-gather, sum_same_on, greatest_above}
 use Rattle.epoch_tags.specs.declared.tuple.Tuple.{Tuple}
 use Rattle.epoch_tags.specs.declared.message.ToJoiner.{ToJoiner}
 use Rattle.epoch_tags.specs.declared.message.ToJoiner.TheVariants.{Tup, Turn, End, Moved, MovedEnd}

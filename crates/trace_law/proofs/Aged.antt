@@ -6,10 +6,10 @@ use Rattle.std.specs.List.{AllByRecursion}
 use Rattle.std.proofs.lemmas.Bool.{and_parts, eqb-true, ne_eqb, le-leb}
 use Rattle.std.proofs.lemmas.Bool.Decides.{nat_tests}
 use Rattle.std.proofs.lemmas.List.Sums.{sum_by-append}
-use Rattle.join_rows.specs.Lists.{SameBag, IsWithinBag}
-use Rattle.join_rows.proofs.Bags.{only_if, sum-filter, sum_of_map}
-use Rattle.join_rows.proofs.Everywhere.{all-map}
-use Rattle.join_rows.proofs.Totals.{sum_same_on, sum_zero}
+use Rattle.row_cells.specs.Lists.{SameBag, IsWithinBag}
+use Rattle.row_cells.proofs.Bags.{only_if, sum-filter, sum_of_map}
+use Rattle.row_cells.proofs.Everywhere.{all-map}
+use Rattle.row_cells.proofs.Totals.{sum_same_on, sum_zero}
 use Rattle.epoch_tags.specs.declared.tuple.Tuple.{Tuple}
 use Rattle.migration_plan.specs.Steps.{holds}
 use Rattle.load_controller.specs.declared.line.TurnLine.{TurnLine}

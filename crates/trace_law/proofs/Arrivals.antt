@@ -6,9 +6,9 @@ use Rattle.std.specs.Prelude.{map, filter, ◌==◌}
 use Rattle.std.proofs.lemmas.List.{map-append}
 use Rattle.std.specs.List.{AllByRecursion}
 use Rattle.std.proofs.lemmas.Bool.{cases_lt, cases_eq, eq-eqb, ne_eqb}
-use Rattle.join_rows.specs.Lists.{SameBag, gather, greatest, counting_from}
-use Rattle.join_rows.proofs.Bags.{SameBag-refl, SameBag-trans, SameBag-map}
-use Rattle.join_rows.proofs.Everywhere.{all-append, all-gather}
+use Rattle.row_cells.specs.Lists.{SameBag, gather, greatest, counting_from}
+use Rattle.row_cells.proofs.Bags.{SameBag-refl, SameBag-trans, SameBag-map}
+use Rattle.row_cells.proofs.Everywhere.{all-append, all-gather}
 use Rattle.epoch_tags.specs.declared.message.ToFeeder.{ToFeeder}
 use Rattle.epoch_tags.specs.declared.message.ToFeeder.TheVariants.{Order, Grant, Stop}
 use Rattle.epoch_tags.specs.declared.tuple.Tuple.{Tuple}
@@ -27,7 +27,7 @@ use Rattle.trace_law.specs.Family.{Rest, Family, IsAgreeing, IsRestFor, joiner_s
 use Rattle.trace_law.proofs.Stores.{is_stored}
 use Rattle.trace_law.proofs.Aged.{aged_in, old_stamps, later_alone, first_same}
 use Rattle.trace_law.proofs.Membership.{HasAllOf, complete}
-use Rattle.join_rows.proofs.Totals.{gather_same, gather-filter}
+use Rattle.row_cells.proofs.Totals.{gather_same, gather-filter}
 use Rattle.epoch_tags.proofs.EpochShifts.{front_goes}
 use Rattle.joiner_law.proofs.StepStores.{shifts-are}
 

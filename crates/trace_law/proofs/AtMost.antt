@@ -4,8 +4,8 @@ use Rattle.std.proofs.Common.{Bool, true, false, cond, ◌&&◌, List, [], ◌�
 use Rattle.std.specs.Prelude.{map, filter, ◌==◌}
 use Rattle.std.proofs.lemmas.Bool.{cases_eq, lt-ltb, le-ltb}
 use Rattle.std.proofs.lemmas.List.Sums.{sum_by-append}
-use Rattle.join_rows.specs.Lists.{IsPrefix, SameBag, IsWithinBag}
-use Rattle.join_rows.proofs.Bags.{only_if, sum-filter, sum_three}
+use Rattle.row_cells.specs.Lists.{IsPrefix, SameBag, IsWithinBag}
+use Rattle.row_cells.proofs.Bags.{only_if, sum-filter, sum_three}
 use Rattle.epoch_tags.specs.declared.tuple.Tuple.{Tuple}
 use Rattle.epoch_tags.specs.declared.message.ToJoiner.{ToJoiner}
 use Rattle.epoch_tags.specs.declared.message.ToJoiner.TheVariants.{Tup, Turn, End, Moved, MovedEnd}
@@ -25,9 +25,9 @@ use Rattle.trace_law.proofs.Arrivals.{front_of, goes_by, all_granted, granted_si
 use Rattle.trace_law.proofs.Aged.{filter-map, within-map, aged_in, old_stamps, later_alone, first_within}
 use Rattle.std.proofs.lemmas.List.{map-append, length-map}
 use Rattle.trace_law.proofs.Journals.{shift_in, feeders_go, begins, rows_known}
-use Rattle.join_rows.proofs.Within.{IsWithinBag-trans, within_same, within-filter, within-gather, within-more}
-use Rattle.join_rows.proofs.Within.{nothing_within}
-use Rattle.join_rows.proofs.Totals.{gather-filter}
+use Rattle.row_cells.proofs.Within.{IsWithinBag-trans, within_same, within-filter, within-gather, within-more}
+use Rattle.row_cells.proofs.Within.{nothing_within}
+use Rattle.row_cells.proofs.Totals.{gather-filter}
 use Rattle.grid_map.proofs.Halves.{partner_below}
 
 -- ---- one step

@@ -3,10 +3,10 @@ use Rattle.std.proofs.Common.{◌≡◌, ℕ, ◌+◌, ◌-◌, ◌*◌, ◌^◌
 use Rattle.std.proofs.Common.{◌++◌}
 use Rattle.std.specs.Prelude.{map, sum_by, reverse}
 use Rattle.std.proofs.lemmas.List.{reverse-append, reverse-reverse}
-use Rattle.join_rows.specs.declared.table.Side.TheVariants.{R, S}
-use Rattle.join_rows.specs.Lists.{IsPrefix, total}
-use Rattle.join_rows.proofs.Bags.{sum_of_map, IsWithinBag-prefix}
-use Rattle.join_rows.proofs.Totals.{total_le}
+use Rattle.row_cells.specs.declared.table.Side.TheVariants.{R, S}
+use Rattle.row_cells.specs.Lists.{IsPrefix, total}
+use Rattle.row_cells.proofs.Bags.{sum_of_map, IsWithinBag-prefix}
+use Rattle.row_cells.proofs.Totals.{total_le}
 use Rattle.load_controller.specs.declared.line.TurnLine.{TurnLine}
 use Rattle.load_controller.specs.Journal.{begun, Follows, counted_r, counted_s, causes_of, all_causes, IsLawfulSoFar}
 use Rattle.load_controller.specs.Journal.{last_epoch, due_lines}

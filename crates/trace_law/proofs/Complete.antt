@@ -9,8 +9,8 @@ use Rattle.epoch_tags.specs.declared.message.ToJoiner.{ToJoiner}
 use Rattle.epoch_tags.specs.declared.message.ToCollector.{ToCollector}
 use Rattle.epoch_tags.specs.declared.message.ToCollector.TheVariants.{Found, Fin}
 use Rattle.epoch_tags.specs.declared.tuple.Pair.{Pair}
-use Rattle.join_rows.specs.Lists.{IsPrefix, counting_from}
-use Rattle.join_rows.proofs.RisingNumbers.{length-counting_from}
+use Rattle.row_cells.specs.Lists.{IsPrefix, counting_from}
+use Rattle.row_cells.proofs.RisingNumbers.{length-counting_from}
 use Rattle.epoch_tags.specs.declared.message.ToController.{ToController}
 use Rattle.epoch_tags.specs.declared.message.ToController.TheVariants.{Ask, Drained, Settled}
 use Rattle.epoch_tags.specs.Messages.{settled_epochs, order_epochs, stops, turns, ends, moved_ends, fins}
@@ -37,7 +37,7 @@ use Rattle.trace_law.proofs.Arrivals.{goes_by}
 use Rattle.trace_law.proofs.Again.{ends_whole}
 use Rattle.trace_law.proofs.Ends.{took_sent, is_over_now, all_came}
 use Rattle.trace_law.proofs.Journals.{shift_in, feeders_go, begins}
-use Rattle.join_rows.proofs.Totals.{greatest_above, front_length}
+use Rattle.row_cells.proofs.Totals.{greatest_above, front_length}
 
 fins_front : (xs ys : List ToCollector) → 0 < fins xs → 0 < fins (xs ++ ys)
 fins_front [] ys has = absurd (omega arith)

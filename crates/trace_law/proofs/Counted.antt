@@ -8,11 +8,11 @@ use Rattle.std.proofs.lemmas.Nat.{div_below, mod_below, div-add-mod'}
 use Rattle.std.proofs.lemmas.Option.{slice_get-get_or}
 use Rattle.std.proofs.lemmas.List.FromFn.{length-map-range_with_len}
 use Rattle.std.proofs.lemmas.List.Sums.{sum_by-cons}
-use Rattle.join_rows.specs.declared.table.Side.{Side}
-use Rattle.join_rows.specs.declared.table.Side.TheVariants.{R, S}
-use Rattle.join_rows.specs.Lists.{total}
-use Rattle.join_rows.proofs.Bags.{only_if}
-use Rattle.join_rows.proofs.Totals.{total_same, one_index, zeros}
+use Rattle.row_cells.specs.declared.table.Side.{Side}
+use Rattle.row_cells.specs.declared.table.Side.TheVariants.{R, S}
+use Rattle.row_cells.specs.Lists.{total}
+use Rattle.row_cells.proofs.Bags.{only_if}
+use Rattle.row_cells.proofs.Totals.{total_same, one_index, zeros}
 use Rattle.row_tickets.specs.declared.place.Place.{Place}
 use Rattle.row_tickets.specs.Share.{place_at}
 use Rattle.migration_plan.specs.Steps.{same_side}

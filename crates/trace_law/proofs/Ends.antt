@@ -5,7 +5,7 @@ use Rattle.std.specs.Prelude.{map}
 use Rattle.std.specs.List.{list_all}
 use Rattle.std.proofs.lemmas.Bool.{cases_eq, cases_Bool, and_parts, not-true, true≢false, or_cases}
 use mathlib.Core.List.{reverse-cons}
-use Rattle.join_rows.specs.Lists.{counting_from}
+use Rattle.row_cells.specs.Lists.{counting_from}
 use Rattle.epoch_tags.specs.declared.message.ToController.{ToController}
 use Rattle.epoch_tags.specs.Messages.{stops, order_epochs, draineds}
 use Rattle.reshuffler_core.specs.Law.{requests}
@@ -23,7 +23,7 @@ use Rattle.trace_law.proofs.Steps.{steps, orders_sent}
 use Rattle.trace_law.proofs.Finished.{E}
 use Rattle.trace_law.proofs.Lawful.{lines_of, causes_are, journal_is, lawful_so_far, causes_asked}
 use Rattle.epoch_tags.proofs.Appends.{nothing_left, nothing_asked}
-use Rattle.join_rows.proofs.RisingNumbers.{length-counting_from}
+use Rattle.row_cells.proofs.RisingNumbers.{length-counting_from}
 use Rattle.trace_law.proofs.Lines.{came}
 use Rattle.epoch_tags.specs.Orders.{StopsLast, DrainsLast}
 use Rattle.load_controller.proofs.Sends.{stops_last, going, no_stops}

@@ -4,8 +4,8 @@ use Rattle.std.proofs.Common.{cond, List, [], ◌∷◌, ◌++◌, length, appen
 use Rattle.std.specs.Prelude.{◌==◌, ◌/◌, ◌%◌, ⊤}
 use Rattle.std.proofs.lemmas.Bool.{cases_eq, cases_lt, eq-eqb, ne_eqb}
 use Rattle.std.proofs.lemmas.Nat.{mul-le}
-use Rattle.join_rows.specs.Lists.{total}
-use Rattle.join_rows.proofs.Totals.{total_same, total_one, total-zero}
+use Rattle.row_cells.specs.Lists.{total}
+use Rattle.row_cells.proofs.Totals.{total_same, total_one, total-zero}
 use Rattle.epoch_tags.specs.declared.message.ToJoiner.{ToJoiner}
 use Rattle.epoch_tags.specs.declared.message.ToJoiner.TheVariants.{Tup, Turn, End, Moved, MovedEnd}
 use Rattle.epoch_tags.specs.Messages.{moved_of, moved_ends}

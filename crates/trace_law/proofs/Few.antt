@@ -6,12 +6,12 @@ use Rattle.std.proofs.lemmas.Bool.{cases_eq}
 use Rattle.std.proofs.lemmas.Nat.{pow_pos}
 use Rattle.std.proofs.lemmas.List.{length-map, reverse-append, reverse-reverse}
 use Rattle.std.proofs.lemmas.List.FromFn.{length-map-range_with_len}
-use Rattle.join_rows.specs.declared.table.Side.TheVariants.{R, S}
-use Rattle.join_rows.specs.Lists.{total, counting_from}
-use Rattle.join_rows.proofs.Totals.{total_le, total_same, total-add, total-const, length-gather, greatest_above}
-use Rattle.join_rows.proofs.Totals.{length_sum, front_length, filter_fewer, total_swap, only_one, total_most}
-use Rattle.join_rows.proofs.Totals.{greatest_most}
-use Rattle.join_rows.proofs.RisingNumbers.{length-counting_from}
+use Rattle.row_cells.specs.declared.table.Side.TheVariants.{R, S}
+use Rattle.row_cells.specs.Lists.{total, counting_from}
+use Rattle.row_cells.proofs.Totals.{total_le, total_same, total-add, total-const, length-gather, greatest_above}
+use Rattle.row_cells.proofs.Totals.{length_sum, front_length, filter_fewer, total_swap, only_one, total_most}
+use Rattle.row_cells.proofs.Totals.{greatest_most}
+use Rattle.row_cells.proofs.RisingNumbers.{length-counting_from}
 use Rattle.epoch_tags.specs.declared.message.ToController.{ToController}
 use Rattle.epoch_tags.specs.declared.message.ToController.TheVariants.{Settled}
 use Rattle.epoch_tags.specs.declared.message.ToCollector.TheVariants.{Found}
@@ -37,11 +37,11 @@ use Rattle.trace_law.proofs.Lines.{came}
 use Rattle.trace_law.proofs.Shares.{of_batches, own_total, new_count}
 use Rattle.trace_law.proofs.Steps.{steps, orders_sent}
 use Rattle.trace_law.proofs.Loop.{known_within}
-use Rattle.join_rows.proofs.Within.{filtered_within}
+use Rattle.row_cells.proofs.Within.{filtered_within}
 use Rattle.trace_law.proofs.Stores.{is_stored}
 use Rattle.trace_law.proofs.AtMost.{b, all, stores_at_most}
 use Rattle.trace_law.proofs.Events.{all_within, by_epochs, few_pieces}
-use Rattle.join_rows.proofs.Bags.{sum-same}
+use Rattle.row_cells.proofs.Bags.{sum-same}
 use Rattle.trace_law.proofs.Lawful.{lines_of}
 use Rattle.load_controller.proofs.Shifts.{last_is}
 use Rattle.reshuffler_core.proofs.Sizes.{asks_for_batches, answers_are_few}
@@ -111,7 +111,7 @@ module _ (input : Input) (setting : Setting) (rest : Rest) (f : Family) (agrees 
   -- the tuples of a feeder's batches are its share
   tuples_are : (p : ℕ) → sum_by (λ b. length b) (feeder_start input setting rest p).batches ≡ share_size p
   tuples_are p =
-      Rattle.join_rows.proofs.Bags.sum-same (λ b. length b) (λ b. sum_by (λ t. 1) b) (λ b. length_sum b)
+      Rattle.row_cells.proofs.Bags.sum-same (λ b. length b) (λ b. sum_by (λ t. 1) b) (λ b. length_sum b)
       (feeder_start input setting rest p).batches
       ∙ of_batches input setting valid.some valid.batch rest (λ t. 1) p
       ∙ sym (length_sum (own_rows input setting rest.line p))

@@ -6,12 +6,12 @@ use Rattle.std.specs.List.{AllByRecursion}
 use Rattle.std.proofs.lemmas.Bool.{cases_lt, leb-true, false_from_ne_true}
 use Rattle.std.proofs.lemmas.Nat.{pow_pos}
 use Rattle.std.proofs.lemmas.List.Sums.{sum_by-append}
-use Rattle.join_rows.specs.Lists.{SameBag, gather}
-use Rattle.join_rows.proofs.Bags.{only_if, sum-same, sum-filter, SameBag-trans, SameBag-sym, SameBag-refl}
-use Rattle.join_rows.proofs.Bags.{SameBag-append}
-use Rattle.join_rows.proofs.Within.{same-gather}
-use Rattle.join_rows.proofs.Everywhere.{weaken, all-append, all-gather, both_hold}
-use Rattle.join_rows.proofs.Totals.{sum_plus, greatest_above}
+use Rattle.row_cells.specs.Lists.{SameBag, gather}
+use Rattle.row_cells.proofs.Bags.{only_if, sum-same, sum-filter, SameBag-trans, SameBag-sym, SameBag-refl}
+use Rattle.row_cells.proofs.Bags.{SameBag-append}
+use Rattle.row_cells.proofs.Within.{same-gather}
+use Rattle.row_cells.proofs.Everywhere.{weaken, all-append, all-gather, both_hold}
+use Rattle.row_cells.proofs.Totals.{sum_plus, greatest_above}
 use Rattle.epoch_tags.specs.declared.tuple.Tuple.{Tuple}
 use Rattle.epoch_tags.specs.declared.tuple.Pair.{Pair}
 use Rattle.epoch_tags.specs.declared.message.ToCollector.{ToCollector}

@@ -7,7 +7,7 @@ use Rattle.load_controller.specs.declared.line.Cause.{Cause}
 use Rattle.load_controller.specs.declared.line.TurnLine.{TurnLine}
 use Rattle.load_controller.specs.Journal.{Rules, Fits, Follows, begun, line_after, last_epoch, IsLawfulSoFar}
 use Rattle.std.proofs.lemmas.List.Elements.{All-from_recursion}
-use Rattle.join_rows.proofs.Everywhere.{weaken, all-reverse}
+use Rattle.row_cells.proofs.Everywhere.{weaken, all-reverse}
 use mathlib.Core.List.{reverse-reverse}
 use Rattle.trace_law.specs.declared.input.Input.{Input}
 use Rattle.trace_law.specs.declared.run.Run.{Run}

@@ -6,13 +6,13 @@ use Rattle.std.specs.Prelude.{map, filter, sum_by}
 use Rattle.std.specs.List.{AllByRecursion}
 use Rattle.std.proofs.lemmas.List.Sums.{sum_by-append}
 use Rattle.std.proofs.lemmas.List.Elements.{recursion_from_All}
-use Rattle.join_rows.specs.declared.table.Side.{Side}
-use Rattle.join_rows.specs.Lists.{SameBag, IsWithinBag, gather, total}
-use Rattle.join_rows.proofs.Bags.{SameBag-trans, SameBag-sym, SameBag-refl, SameBag-append}
-use Rattle.join_rows.proofs.Within.{IsWithinBag-trans, within_same, within-gather, within-append, gather_more}
-use Rattle.join_rows.proofs.Within.{same-gather}
-use Rattle.join_rows.proofs.Everywhere.{weaken, all-append, all-gather, all-map, both_hold, all_at}
-use Rattle.join_rows.proofs.Totals.{sum-gather, total-add, total_same, total_part, each_below, sum_by-le}
+use Rattle.row_cells.specs.declared.table.Side.{Side}
+use Rattle.row_cells.specs.Lists.{SameBag, IsWithinBag, gather, total}
+use Rattle.row_cells.proofs.Bags.{SameBag-trans, SameBag-sym, SameBag-refl, SameBag-append}
+use Rattle.row_cells.proofs.Within.{IsWithinBag-trans, within_same, within-gather, within-append, gather_more}
+use Rattle.row_cells.proofs.Within.{same-gather}
+use Rattle.row_cells.proofs.Everywhere.{weaken, all-append, all-gather, all-map, both_hold, all_at}
+use Rattle.row_cells.proofs.Totals.{sum-gather, total-add, total_same, total_part, each_below, sum_by-le}
 use Rattle.epoch_tags.specs.declared.tuple.Tuple.{Tuple}
 use Rattle.epoch_tags.specs.declared.tuple.Pair.{Pair}
 use Rattle.epoch_tags.specs.declared.message.ToFeeder.{ToFeeder}

@@ -1,7 +1,7 @@
 -- Feeders go by the journal's shifts, and so do the stores of every agreeing family.
 use Rattle.std.proofs.Common.{◌≡◌, ℕ, ◌+◌, ◌^◌, ◌<◌, ◌≤◌, sym, ◌∙◌, ap, subst, List, ◌∷◌, ◌++◌, append_assoc}
 use Rattle.std.specs.Prelude.{map, filter}
-use Rattle.join_rows.specs.Lists.{SameBag}
+use Rattle.row_cells.specs.Lists.{SameBag}
 use Rattle.epoch_tags.specs.declared.tuple.Tuple.{Tuple}
 use Rattle.load_controller.specs.Journal.{begun, shift_at}
 use Rattle.load_controller.specs.Law.{sent_by}

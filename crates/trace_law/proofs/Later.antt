@@ -3,7 +3,7 @@
 -- hold the earlier row of S with two stamps. Here are the lists.
 use Rattle.std.proofs.Common.{ℕ, zero, suc, ◌-◌, false, List, [], ◌∷◌, ◌++◌, None}
 use Rattle.std.specs.Prelude.{map, reverse}
-use Rattle.join_rows.specs.declared.table.Side.TheVariants.{R, S}
+use Rattle.row_cells.specs.declared.table.Side.TheVariants.{R, S}
 use Rattle.epoch_tags.specs.declared.tuple.Tuple.{Tuple}
 use Rattle.epoch_tags.specs.declared.tuple.Pair.{Pair}
 use Rattle.epoch_tags.specs.declared.message.ToJoiner.{ToJoiner}

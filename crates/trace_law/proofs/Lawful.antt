@@ -2,8 +2,8 @@
 use Rattle.std.proofs.Common.{◌≡◌, ℕ, ◌<◌, refl, sym, ◌∙◌, ap, subst, arith, cond, List, [], ◌∷◌, ◌++◌}
 use Rattle.std.specs.Prelude.{map, count_by, reverse}
 use Rattle.std.proofs.lemmas.List.{map-append, reverse-reverse}
-use Rattle.join_rows.specs.declared.table.Side.TheVariants.{R, S}
-use Rattle.join_rows.proofs.Bags.{sum_of_map}
+use Rattle.row_cells.specs.declared.table.Side.TheVariants.{R, S}
+use Rattle.row_cells.proofs.Bags.{sum_of_map}
 use Rattle.epoch_tags.specs.declared.message.ToController.TheVariants.{Drained}
 use Rattle.migration_plan.specs.Steps.{is_of}
 use Rattle.reshuffler_core.specs.Law.{ask_for}

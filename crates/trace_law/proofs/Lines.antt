@@ -1,7 +1,7 @@
 -- In an agreeing family each request that came to the controller has its line.
 use Rattle.std.proofs.Common.{◌≡◌, ℕ, ◌+◌, ◌^◌, ◌<◌, ◌≤◌, sym, ◌∙◌, ap, arith, List, ◌∷◌, ◌++◌, append_assoc}
-use Rattle.join_rows.specs.Lists.{IsPrefix, total}
-use Rattle.join_rows.proofs.Totals.{total_le, total_but}
+use Rattle.row_cells.specs.Lists.{IsPrefix, total}
+use Rattle.row_cells.proofs.Totals.{total_le, total_but}
 use Rattle.epoch_tags.specs.Messages.{asked_r, asked_s}
 use Rattle.epoch_tags.proofs.Appends.{asked_r-append, asked_s-append}
 use Rattle.reshuffler_core.specs.Law.{requests}

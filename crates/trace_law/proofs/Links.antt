@@ -8,7 +8,7 @@ use Rattle.epoch_tags.specs.Orders.{NeverFalls}
 use Rattle.epoch_tags.specs.Links.{HasLink, joiner_joiner}
 use Rattle.joiner_law.specs.Law.{JoinerStart, Taken, AllTurned, opened, shift_after, partner_of}
 use Rattle.joiner_law.proofs.TakesAll.{at_least, shows}
-use Rattle.join_rows.proofs.Totals.{greatest_above}
+use Rattle.row_cells.proofs.Totals.{greatest_above}
 use Rattle.trace_law.specs.declared.input.Input.{Input}
 use Rattle.trace_law.specs.declared.setting.Setting.{Setting}
 use Rattle.trace_law.specs.Family.{Rest, Family, IsAgreeing, joiner_start}

@@ -4,11 +4,11 @@ use Rattle.std.proofs.Common.{◌∷◌, ◌++◌, length, Some, None}
 use Rattle.std.specs.Prelude.{map, filter, not, filter_map, flat_map, sum_by}
 use Rattle.std.specs.List.{enumerate_from, cons_option, range_with_len}
 use Rattle.std.proofs.lemmas.List.Sums.{sum_by-cons, sum_by-append}
-use Rattle.join_rows.specs.declared.table.Side.{Side}
-use Rattle.join_rows.specs.declared.table.Side.TheVariants.{R, S}
-use Rattle.join_rows.specs.declared.table.Cell.{Cell}
-use Rattle.join_rows.specs.Lists.{SameBag, IsWithinBag, gather, total}
-use Rattle.join_rows.proofs.Bags.{only_if, sum-same, sum-filter, sum_of_map, sum-flat_map}
+use Rattle.row_cells.specs.declared.table.Side.{Side}
+use Rattle.row_cells.specs.declared.table.Side.TheVariants.{R, S}
+use Rattle.row_cells.specs.declared.table.Cell.{Cell}
+use Rattle.row_cells.specs.Lists.{SameBag, IsWithinBag, gather, total}
+use Rattle.row_cells.proofs.Bags.{only_if, sum-same, sum-filter, sum_of_map, sum-flat_map}
 use Rattle.epoch_tags.specs.declared.tuple.Tuple.{Tuple}
 use Rattle.epoch_tags.specs.declared.tuple.Pair.{Pair}
 use Rattle.epoch_tags.specs.declared.message.ToFeeder.{ToFeeder}
@@ -29,8 +29,8 @@ use Rattle.trace_law.proofs.Cuts.{joined_again}
 use Rattle.trace_law.proofs.FoundOnce.{sum-pairs}
 use Rattle.trace_law.proofs.RowSums.{shares_sum}
 use Rattle.trace_law.proofs.Stamps.{grant_epochs, granted_is, IsBlind, some_of_batches}
-use Rattle.join_rows.proofs.Totals.{total_same, total_le, total-add, sum-gather, sum_by-le, sum_plus, zeros}
-use Rattle.join_rows.proofs.Totals.{enumerate_sum, range_sum}
+use Rattle.row_cells.proofs.Totals.{total_same, total_le, total-add, sum-gather, sum_by-le, sum_plus, zeros}
+use Rattle.row_cells.proofs.Totals.{enumerate_sum, range_sum}
 
 -- the sum over all rows of the input
 abbrev pub row_sum : Input → (Tuple → ℕ) → ℕ

@@ -8,10 +8,10 @@ use mathlib.Core.List.{reverse-cons}
 use Rattle.std.proofs.lemmas.List.Sums.{sum_by-cons, sum_by-append}
 use Rattle.row_tickets.specs.declared.place.Place.{Place}
 use Rattle.row_tickets.specs.Share.{place_at}
-use Rattle.join_rows.specs.declared.table.Side.{Side}
-use Rattle.join_rows.specs.declared.table.Side.TheVariants.{R, S}
-use Rattle.join_rows.specs.Lists.{SameBag, gather, total}
-use Rattle.join_rows.proofs.Bags.{only_if, sum-same, sum-filter, SameBag-trans}
+use Rattle.row_cells.specs.declared.table.Side.{Side}
+use Rattle.row_cells.specs.declared.table.Side.TheVariants.{R, S}
+use Rattle.row_cells.specs.Lists.{SameBag, gather, total}
+use Rattle.row_cells.proofs.Bags.{only_if, sum-same, sum-filter, SameBag-trans}
 use Rattle.epoch_tags.specs.declared.tuple.Tuple.{Tuple}
 use Rattle.epoch_tags.specs.declared.tuple.Pair.{Pair}
 use Rattle.epoch_tags.specs.Messages.{found_before_fin}
@@ -39,8 +39,8 @@ use Rattle.trace_law.proofs.NewPairs.{pairs-aged, same_pairs}
 use Rattle.trace_law.proofs.Journals.{begins}
 use Rattle.trace_law.proofs.Lawful.{journal_is}
 use Rattle.trace_law.proofs.StampOf.{stamps_are, old_stamp}
-use Rattle.join_rows.proofs.Everywhere.{all-map, all-reverse}
-use Rattle.join_rows.proofs.Totals.{sum_plus, total_same, total-zero, sum-gather, exchange, one_index, sum_same_on}
+use Rattle.row_cells.proofs.Everywhere.{all-map, all-reverse}
+use Rattle.row_cells.proofs.Totals.{sum_plus, total_same, total-zero, sum-gather, exchange, one_index, sum_same_on}
 
 -- ---- at one pair of tuples
 

@@ -4,9 +4,9 @@ use Rattle.std.proofs.Common.{Bool, true, false, cond, ◌&&◌, List, [], ◌�
 use Rattle.std.specs.Prelude.{map, filter, ◌==◌}
 use Rattle.std.proofs.lemmas.Bool.{lt-ltb, le-ltb}
 use Rattle.epoch_tags.specs.declared.message.ToJoiner.TheVariants.{Tup, Turn, End, Moved, MovedEnd}
-use Rattle.join_rows.specs.declared.table.Side.TheVariants.{R, S}
-use Rattle.join_rows.specs.Lists.{IsPrefix, SameBag}
-use Rattle.join_rows.proofs.Bags.{SameBag-map}
+use Rattle.row_cells.specs.declared.table.Side.TheVariants.{R, S}
+use Rattle.row_cells.specs.Lists.{IsPrefix, SameBag}
+use Rattle.row_cells.proofs.Bags.{SameBag-map}
 use Rattle.std.proofs.lemmas.List.{map-append}
 use Rattle.epoch_tags.specs.declared.tuple.Tuple.{Tuple}
 use Rattle.epoch_tags.specs.declared.message.ToJoiner.{ToJoiner}
@@ -22,7 +22,7 @@ use Rattle.trace_law.specs.declared.setting.Setting.{Setting}
 use Rattle.trace_law.specs.Family.{Rest, Family, IsAgreeing, joiner_start, aged}
 use Rattle.trace_law.proofs.Stores.{is_stored, rising_step, falling_step}
 use Rattle.trace_law.proofs.Aged.{filter-map}
-use Rattle.join_rows.proofs.Totals.{greatest_above}
+use Rattle.row_cells.proofs.Totals.{greatest_above}
 use Rattle.grid_map.proofs.Halves.{partner_below}
 
 -- ---- small facts

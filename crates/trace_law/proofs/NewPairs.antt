@@ -6,11 +6,11 @@ use Rattle.std.specs.List.{AllByRecursion}
 use Rattle.std.proofs.lemmas.Bool.{cases_Bool, eq-eqb, leb-true}
 use Rattle.std.proofs.lemmas.Bool.Decides.{nat_tests}
 use Rattle.std.proofs.lemmas.List.Sums.{sum_by-append}
-use Rattle.join_rows.specs.declared.table.Side.TheVariants.{R, S}
-use Rattle.join_rows.specs.Lists.{SameBag, gather, total}
-use Rattle.join_rows.proofs.Bags.{only_if, sum-same, sum_of_map}
-use Rattle.join_rows.specs.declared.table.Side.{Side}
-use Rattle.join_rows.proofs.Totals.{sum_plus, sum_same_on, sum-gather, total_same, exchange, one_index, zeros}
+use Rattle.row_cells.specs.declared.table.Side.TheVariants.{R, S}
+use Rattle.row_cells.specs.Lists.{SameBag, gather, total}
+use Rattle.row_cells.proofs.Bags.{only_if, sum-same, sum_of_map}
+use Rattle.row_cells.specs.declared.table.Side.{Side}
+use Rattle.row_cells.proofs.Totals.{sum_plus, sum_same_on, sum-gather, total_same, exchange, one_index, zeros}
 use Rattle.grid_map.specs.Grid.{meet, holds_r, holds_s}
 use Rattle.grid_map.proofs.Halves.{meets, meet_below}
 use Rattle.epoch_tags.specs.declared.tuple.Tuple.{Tuple}

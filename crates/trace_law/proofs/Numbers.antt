@@ -7,10 +7,10 @@ use Rattle.std.proofs.lemmas.Bool.{cases_eq, le-leb, eq-eqb, ne_eqb}
 use Rattle.std.proofs.lemmas.Bool.Decides.{nat_tests}
 use Rattle.std.proofs.lemmas.Nat.{div-mul-add, mod-mul-add, mod_below, pow_pos, pow-add}
 use Rattle.std.proofs.lemmas.List.Sums.{sum_by-cons, sum-map}
-use Rattle.join_rows.specs.declared.table.Side.{Side}
-use Rattle.join_rows.specs.declared.table.Side.TheVariants.{R, S}
-use Rattle.join_rows.specs.Lists.{SameBag, gather, counting_from, total}
-use Rattle.join_rows.proofs.Bags.{only_if, sum-filter, sum_of_map}
+use Rattle.row_cells.specs.declared.table.Side.{Side}
+use Rattle.row_cells.specs.declared.table.Side.TheVariants.{R, S}
+use Rattle.row_cells.specs.Lists.{SameBag, gather, counting_from, total}
+use Rattle.row_cells.proofs.Bags.{only_if, sum-filter, sum_of_map}
 use Rattle.epoch_tags.specs.declared.tuple.Tuple.{Tuple}
 use Rattle.epoch_tags.specs.declared.tuple.Pair.{Pair}
 use Rattle.epoch_tags.specs.declared.message.ToJoiner.TheVariants.{Tup}
@@ -47,9 +47,9 @@ use Rattle.trace_law.proofs.Finished.{E, rows_stamped, opened_is, stored_all, ta
 use Rattle.trace_law.proofs.Ends.{lawful, last_orders, last_line}
 use Rattle.trace_law.proofs.StampOf.{granted_stamps}
 use Rattle.trace_law.proofs.Made.{shift_same, σ, stamped_sum, stamped_rows, none_of, length_is, makes}
-use Rattle.join_rows.proofs.Everywhere.{weaken, all-front, all-back, all-append}
-use Rattle.join_rows.proofs.Totals.{total_same, total-zero, sum-gather, exchange, one_index, sum_same_on, total_front}
-use Rattle.join_rows.proofs.Totals.{range_sum, total_grid, pulled, total-const}
+use Rattle.row_cells.proofs.Everywhere.{weaken, all-front, all-back, all-append}
+use Rattle.row_cells.proofs.Totals.{total_same, total-zero, sum-gather, exchange, one_index, sum_same_on, total_front}
+use Rattle.row_cells.proofs.Totals.{range_sum, total_grid, pulled, total-const}
 use Rattle.epoch_tags.proofs.Appends.{tups-append}
 
 -- ---- small facts

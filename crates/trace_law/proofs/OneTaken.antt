@@ -3,8 +3,8 @@ use Rattle.std.proofs.Common.{◌≡◌, ℕ, zero, suc, ◌+◌, ◌^◌, ◌<�
 use Rattle.std.proofs.Common.{◌∷◌, ◌++◌, append_assoc, length}
 use Rattle.std.proofs.lemmas.Bool.{cases_eq, cases_lt}
 use Rattle.std.proofs.lemmas.List.{append-nil, length-map}
-use Rattle.join_rows.specs.Lists.{counting_from}
-use Rattle.join_rows.proofs.RisingNumbers.{length-counting_from}
+use Rattle.row_cells.specs.Lists.{counting_from}
+use Rattle.row_cells.proofs.RisingNumbers.{length-counting_from}
 use Rattle.epoch_tags.specs.declared.message.ToController.TheVariants.{Settled}
 use Rattle.epoch_tags.specs.declared.message.ToJoiner.{ToJoiner}
 use Rattle.epoch_tags.specs.declared.message.ToJoiner.TheVariants.{Turn}
@@ -22,7 +22,7 @@ use Rattle.trace_law.specs.Family.{Rest, Family, IsAgreeing, feeder_start, joine
 use Rattle.trace_law.proofs.Arrivals.{front_of, goes_by}
 use Rattle.trace_law.proofs.Journals.{shift_in, feeders_go, begins}
 use Rattle.trace_law.proofs.JoinerLemmas.{can_take_of_joiner}
-use Rattle.join_rows.proofs.Totals.{greatest_above, greatest_same}
+use Rattle.row_cells.proofs.Totals.{greatest_above, greatest_same}
 use Rattle.epoch_tags.proofs.Appends.{turns-append, front_falls}
 use Rattle.epoch_tags.proofs.EpochShifts.{front_goes, turns_at}
 use Rattle.reshuffler_core.proofs.Arrivals.{answers_go}

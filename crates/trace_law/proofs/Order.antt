@@ -5,10 +5,10 @@ use Rattle.std.specs.Prelude.{filter, sum_by, filter_map, flat_map, ◌==◌}
 use Rattle.std.specs.List.{AllByRecursion, enumerate_from, cons_option}
 use Rattle.std.proofs.lemmas.Bool.{cases_Bool, and_parts, and_from, eqb-true, eq-eqb}
 use Rattle.std.proofs.lemmas.List.Sums.{sum_by-cons}
-use Rattle.join_rows.specs.declared.table.Cell.{Cell}
-use Rattle.join_rows.specs.declared.table.Side.TheVariants.{R, S}
-use Rattle.join_rows.specs.Lists.{SameBag, IsWithinBag}
-use Rattle.join_rows.proofs.Bags.{only_if}
+use Rattle.row_cells.specs.declared.table.Cell.{Cell}
+use Rattle.row_cells.specs.declared.table.Side.TheVariants.{R, S}
+use Rattle.row_cells.specs.Lists.{SameBag, IsWithinBag}
+use Rattle.row_cells.proofs.Bags.{only_if}
 use Rattle.epoch_tags.specs.declared.tuple.Pair.{Pair}
 use Rattle.epoch_tags.specs.declared.message.ToCollector.{ToCollector}
 use Rattle.epoch_tags.specs.declared.message.ToCollector.TheVariants.{Found, Fin}
@@ -24,8 +24,8 @@ use Rattle.trace_law.proofs.Loop.{loop_pair}
 use Rattle.load_controller.specs.declared.line.TurnLine.{TurnLine}
 use Rattle.trace_law.proofs.StampOf.{filtered}
 use Rattle.trace_law.proofs.Sent.{nothing_wrong}
-use Rattle.join_rows.proofs.Within.{IsWithinBag-trans, within-gather, within-append, within-refl}
-use Rattle.join_rows.proofs.Everywhere.{weaken, all-append}
+use Rattle.row_cells.proofs.Within.{IsWithinBag-trans, within-gather, within-append, within-refl}
+use Rattle.row_cells.proofs.Everywhere.{weaken, all-append}
 
 one_pair : (p q : Pair) → p.i ≡ q.i → p.j ≡ q.j → p ≡ q
 one_pair p q same_i same_j = ap (λ n. loop_pair n p.j) same_i ∙ ap (λ n. loop_pair q.i n) same_j

@@ -4,8 +4,8 @@ use Rattle.std.proofs.Common.{true, false, List, [], ◌∷◌, ◌++◌, length
 use Rattle.std.specs.Prelude.{map}
 use Rattle.std.proofs.lemmas.Bool.{cases_eq, cases_lt, cases_Bool, true≢false, true_from_ne_false}
 use Rattle.std.proofs.lemmas.List.{append-nil}
-use Rattle.join_rows.specs.Lists.{counting_from}
-use Rattle.join_rows.proofs.RisingNumbers.{length-counting_from}
+use Rattle.row_cells.specs.Lists.{counting_from}
+use Rattle.row_cells.proofs.RisingNumbers.{length-counting_from}
 use Rattle.epoch_tags.specs.declared.message.ToController.{ToController}
 use Rattle.epoch_tags.specs.declared.message.ToJoiner.{ToJoiner}
 use Rattle.epoch_tags.specs.declared.message.ToJoiner.TheVariants.{Turn}
@@ -38,7 +38,7 @@ use Rattle.trace_law.specs.Family.{rules_of}
 use Rattle.trace_law.proofs.Membership.{low_within}
 use Rattle.trace_law.proofs.Arrivals.{goes_by}
 use Rattle.trace_law.proofs.Journals.{shift_in, feeders_go, begins}
-use Rattle.join_rows.proofs.Totals.{greatest_above, greatest_most}
+use Rattle.row_cells.proofs.Totals.{greatest_above, greatest_most}
 use Rattle.trace_law.proofs.Begun.{no_drain}
 use Rattle.trace_law.proofs.Steps.{steps, epoch_is, orders_sent}
 use Rattle.trace_law.proofs.Found.{shift_within}

@@ -2,10 +2,10 @@
 use Rattle.std.proofs.Common.{◌≡◌, ℕ, ◌+◌, ◌<◌, ◌^◌, refl, sym, ◌∙◌, ap, subst, arith, true, false, ◌||◌, List, [], ◌∷◌}
 use Rattle.std.specs.Prelude.{map, sum_by}
 use Rattle.std.proofs.lemmas.Bool.{true≢false}
-use Rattle.join_rows.specs.declared.table.Side.TheVariants.{R, S}
-use Rattle.join_rows.specs.Lists.{total}
-use Rattle.join_rows.proofs.Bags.{sum_of_map}
-use Rattle.join_rows.proofs.Totals.{total_same}
+use Rattle.row_cells.specs.declared.table.Side.TheVariants.{R, S}
+use Rattle.row_cells.specs.Lists.{total}
+use Rattle.row_cells.proofs.Bags.{sum_of_map}
+use Rattle.row_cells.proofs.Totals.{total_same}
 use Rattle.joiner_law.specs.Law.{opened}
 use Rattle.load_controller.specs.declared.line.Cause.{Cause}
 use Rattle.load_controller.specs.declared.line.Cause.TheVariants.{Start, Wave, Count, Settle, Drain}

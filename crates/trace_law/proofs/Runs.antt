@@ -8,12 +8,12 @@ use Rattle.std.proofs.Math.Pow.{pow_mono}
 use Rattle.std.proofs.lemmas.List.Sums.{sum-map, count_by-le-length}
 use Rattle.std.proofs.lemmas.List.FromFn.{length-range_with_len}
 use Rattle.std.proofs.lemmas.List.Elements.{All-from_recursion}
-use Rattle.join_rows.specs.declared.table.Side.{Side}
-use Rattle.join_rows.specs.declared.table.Side.TheVariants.{R, S}
-use Rattle.join_rows.specs.Lists.{counting_from, greatest}
-use Rattle.join_rows.proofs.Bags.{SameBag-trans}
-use Rattle.join_rows.proofs.Everywhere.{all-reverse}
-use Rattle.join_rows.proofs.Totals.{range_sum, total_same}
+use Rattle.row_cells.specs.declared.table.Side.{Side}
+use Rattle.row_cells.specs.declared.table.Side.TheVariants.{R, S}
+use Rattle.row_cells.specs.Lists.{counting_from, greatest}
+use Rattle.row_cells.proofs.Bags.{SameBag-trans}
+use Rattle.row_cells.proofs.Everywhere.{all-reverse}
+use Rattle.row_cells.proofs.Totals.{range_sum, total_same}
 use Rattle.epoch_tags.specs.declared.message.ToCollector.{ToCollector}
 use Rattle.epoch_tags.specs.declared.message.ToCollector.TheVariants.{Found, Fin}
 use Rattle.epoch_tags.specs.Messages.{fins_of, found_before_fin}

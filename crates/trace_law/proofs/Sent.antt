@@ -4,7 +4,7 @@ use Rattle.std.proofs.Common.{false, cond, List, [], ◌∷◌, ◌++◌}
 use Rattle.std.specs.Prelude.{map, filter, flat_map, nat_le}
 use Rattle.std.specs.List.{AllByRecursion}
 use Rattle.std.proofs.lemmas.Bool.{leb-true, and_parts}
-use Rattle.join_rows.specs.Lists.{SameBag, gather}
+use Rattle.row_cells.specs.Lists.{SameBag, gather}
 use Rattle.epoch_tags.specs.declared.tuple.Tuple.{Tuple}
 use Rattle.epoch_tags.specs.declared.tuple.Pair.{Pair}
 use Rattle.epoch_tags.specs.declared.message.ToCollector.{ToCollector}
@@ -22,8 +22,8 @@ use Rattle.trace_law.proofs.Stores.{is_stored}
 use Rattle.trace_law.proofs.Loop.{known_pairs, rest_is_new}
 use Rattle.trace_law.proofs.AtMost.{b, all, start_of, took, came_within, stores_at_most}
 use Rattle.trace_law.proofs.Found.{found_each_once}
-use Rattle.join_rows.proofs.Within.{IsWithinBag-trans, within_same, same-gather, filtered_within, all_pass}
-use Rattle.join_rows.proofs.Everywhere.{weaken}
+use Rattle.row_cells.proofs.Within.{IsWithinBag-trans, within_same, same-gather, filtered_within, all_pass}
+use Rattle.row_cells.proofs.Everywhere.{weaken}
 
 -- what a joiner sent are its `Found`s
 all_founds : (founds : List (List Pair)) (fins : List ToCollector) → found_before_fin fins ≡ []

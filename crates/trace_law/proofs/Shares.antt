@@ -3,10 +3,10 @@ use Rattle.std.proofs.Common.{◌≡◌, ℕ, ◌+◌, ◌<◌, ◌≤◌, refl,
 use Rattle.std.proofs.Common.{◌++◌}
 use Rattle.std.specs.Prelude.{map, not, nat_lt, sum_by, count_by}
 use Rattle.std.proofs.lemmas.List.Sums.{sum_by-cons}
-use Rattle.join_rows.specs.declared.table.Side.TheVariants.{R, S}
-use Rattle.join_rows.specs.Lists.{total}
-use Rattle.join_rows.proofs.Bags.{only_if, sum-same, sum-filter, sum_of_map, sum-flat_map}
-use Rattle.join_rows.proofs.Totals.{total_same, total-add, total-const, below_sum, zeros}
+use Rattle.row_cells.specs.declared.table.Side.TheVariants.{R, S}
+use Rattle.row_cells.specs.Lists.{total}
+use Rattle.row_cells.proofs.Bags.{only_if, sum-same, sum-filter, sum_of_map, sum-flat_map}
+use Rattle.row_cells.proofs.Totals.{total_same, total-add, total-const, below_sum, zeros}
 use Rattle.epoch_tags.specs.declared.tuple.Tuple.{Tuple}
 use Rattle.epoch_tags.specs.declared.message.ToController.TheVariants.{Drained}
 use Rattle.epoch_tags.specs.Messages.{asked_r, asked_s}

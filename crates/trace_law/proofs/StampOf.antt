@@ -9,9 +9,9 @@ use Rattle.std.proofs.lemmas.List.{drop_all, take_all}
 use Rattle.std.proofs.lemmas.Nat.{div-mul-add}
 use Rattle.std.proofs.lemmas.Option.{slice_get_past, slice_get-get_or}
 use Rattle.std.proofs.lemmas.List.Sums.{sum_by-cons, sum_by-append}
-use Rattle.join_rows.specs.declared.table.Side.{Side}
-use Rattle.join_rows.specs.declared.table.Side.TheVariants.{R, S}
-use Rattle.join_rows.proofs.Bags.{only_if}
+use Rattle.row_cells.specs.declared.table.Side.{Side}
+use Rattle.row_cells.specs.declared.table.Side.TheVariants.{R, S}
+use Rattle.row_cells.proofs.Bags.{only_if}
 use Rattle.epoch_tags.specs.declared.tuple.Tuple.{Tuple}
 use Rattle.reshuffler_core.specs.Law.{stamped}
 use Rattle.reshuffler_core.proofs.Arrivals.{granted}
@@ -33,10 +33,10 @@ use Rattle.trace_law.proofs.RowSums.{shares_sum}
 use Rattle.trace_law.proofs.Stamps.{grant_epochs, with_stamps, granted_is, epochs_taken}
 use Rattle.trace_law.proofs.Sent.{rows}
 use Rattle.trace_law.proofs.Lawful.{journal_is}
-use Rattle.join_rows.specs.Lists.{total, gather}
-use Rattle.join_rows.proofs.Within.{within-refl, filtered_within, all_pass}
-use Rattle.join_rows.proofs.Everywhere.{weaken, all-back, all-append, all-gather, all-map, all-flat_map}
-use Rattle.join_rows.proofs.Totals.{total_same, total-zero, one_index, total_part}
+use Rattle.row_cells.specs.Lists.{total, gather}
+use Rattle.row_cells.proofs.Within.{within-refl, filtered_within, all_pass}
+use Rattle.row_cells.proofs.Everywhere.{weaken, all-back, all-append, all-gather, all-map, all-flat_map}
+use Rattle.row_cells.proofs.Totals.{total_same, total-zero, one_index, total_part}
 
 -- ---- a feeder's rows are its own
 

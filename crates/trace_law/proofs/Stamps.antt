@@ -7,8 +7,8 @@ use Rattle.std.proofs.lemmas.List.{map-append}
 use Rattle.std.proofs.lemmas.List.Elements.{filter-append}
 use mathlib.Core.List.{reverse-cons}
 use Rattle.std.proofs.lemmas.List.Sums.{sum_by-append}
-use Rattle.join_rows.specs.Lists.{IsPrefix}
-use Rattle.join_rows.proofs.Bags.{sum-same, sum_of_map}
+use Rattle.row_cells.specs.Lists.{IsPrefix}
+use Rattle.row_cells.proofs.Bags.{sum-same, sum_of_map}
 use Rattle.epoch_tags.specs.declared.tuple.Tuple.{Tuple}
 use Rattle.epoch_tags.specs.declared.message.ToFeeder.{ToFeeder}
 use Rattle.epoch_tags.specs.declared.message.ToFeeder.TheVariants.{Order, Grant, Stop}

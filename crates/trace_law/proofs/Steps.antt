@@ -1,6 +1,6 @@
 -- How many steps a wave's journal has begun, and what feeders were sent for them.
 use Rattle.std.proofs.Common.{◌≡◌, ℕ, ◌+◌, ◌-◌, subst, arith, ◌∷◌}
-use Rattle.join_rows.specs.Lists.{counting_from}
+use Rattle.row_cells.specs.Lists.{counting_from}
 use Rattle.epoch_tags.specs.Messages.{order_epochs}
 use Rattle.load_controller.specs.declared.line.TurnLine.{TurnLine}
 use Rattle.load_controller.specs.Journal.{begun}

@@ -5,10 +5,10 @@ use Rattle.std.specs.Prelude.{map, filter, not, filter_map, option_map, sum_by, 
 use Rattle.std.specs.List.{AllByRecursion, cons_option}
 use Rattle.std.proofs.lemmas.Bool.{lt-leb}
 use Rattle.std.proofs.lemmas.List.Sums.{sum_by-cons, sum_by-append}
-use Rattle.join_rows.specs.declared.table.Side.{Side}
-use Rattle.join_rows.specs.declared.table.Side.TheVariants.{R, S}
-use Rattle.join_rows.specs.Lists.{SameBag, IsWithinBag, gather, counting_from, total}
-use Rattle.join_rows.proofs.Bags.{only_if, sum-filter, sum-same, sum_of_map, SameBag-trans}
+use Rattle.row_cells.specs.declared.table.Side.{Side}
+use Rattle.row_cells.specs.declared.table.Side.TheVariants.{R, S}
+use Rattle.row_cells.specs.Lists.{SameBag, IsWithinBag, gather, counting_from, total}
+use Rattle.row_cells.proofs.Bags.{only_if, sum-filter, sum-same, sum_of_map, SameBag-trans}
 use Rattle.epoch_tags.specs.declared.tuple.Tuple.{Tuple}
 use Rattle.epoch_tags.specs.declared.message.ToFeeder.{ToFeeder}
 use Rattle.epoch_tags.specs.declared.message.ToFeeder.TheVariants.{Order, Grant, Stop}
@@ -42,10 +42,10 @@ use Rattle.trace_law.proofs.Lawful.{journal_is}
 use Rattle.trace_law.proofs.Ends.{sent_last}
 use Rattle.trace_law.proofs.StampOf.{weigh, counted_weigh, old_stamp}
 use Rattle.trace_law.proofs.Made.{shift_same}
-use Rattle.join_rows.proofs.Within.{IsWithinBag-trans, within-filter, within-gather, within-more, within_same}
-use Rattle.join_rows.proofs.Within.{within-append, within-refl}
-use Rattle.join_rows.proofs.Everywhere.{all-append}
-use Rattle.join_rows.proofs.Totals.{total_same, total-add, sum-gather}
+use Rattle.row_cells.proofs.Within.{IsWithinBag-trans, within-filter, within-gather, within-more, within_same}
+use Rattle.row_cells.proofs.Within.{within-append, within-refl}
+use Rattle.row_cells.proofs.Everywhere.{all-append}
+use Rattle.row_cells.proofs.Totals.{total_same, total-add, sum-gather}
 use Rattle.epoch_tags.proofs.Appends.{nothing_left, turns-append, ends-append}
 use Rattle.epoch_tags.specs.Orders.{StopsLast}
 use Rattle.reshuffler_core.proofs.TakesAll.{answers_turns, answers_ends}

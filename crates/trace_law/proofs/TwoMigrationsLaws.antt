@@ -4,9 +4,9 @@ use Rattle.std.proofs.Common.{subst, arith, Bool, true, false, [], ◌∷◌, �
 use Rattle.std.specs.Prelude.{All, filter}
 use Rattle.std.specs.List.{AllByRecursion}
 use Rattle.std.proofs.lemmas.Bool.{cases_eq, ne_eqb, eq-eqb}
-use Rattle.join_rows.specs.declared.table.Side.{Side}
-use Rattle.join_rows.specs.declared.table.Side.TheVariants.{R, S}
-use Rattle.join_rows.specs.Lists.{SameBag}
+use Rattle.row_cells.specs.declared.table.Side.{Side}
+use Rattle.row_cells.specs.declared.table.Side.TheVariants.{R, S}
+use Rattle.row_cells.specs.Lists.{SameBag}
 use Rattle.epoch_tags.specs.Messages.{moved_of, moved_ends, turn_shifts}
 use Rattle.epoch_tags.specs.Orders.{CountsUp, NeverFalls}
 use Rattle.epoch_tags.specs.declared.message.ToCollector.TheVariants.{Fin}

@@ -5,8 +5,8 @@ use Rattle.std.specs.List.{AllByRecursion}
 use Rattle.std.proofs.lemmas.List.{reverse-append, reverse-reverse}
 use Rattle.std.proofs.lemmas.List.Sums.{sum_by-cons}
 use Rattle.std.proofs.lemmas.Nat.{pow_pos}
-use Rattle.join_rows.specs.declared.table.Side.TheVariants.{R, S}
-use Rattle.join_rows.specs.Lists.{IsPrefix}
+use Rattle.row_cells.specs.declared.table.Side.TheVariants.{R, S}
+use Rattle.row_cells.specs.Lists.{IsPrefix}
 use Rattle.load_controller.specs.declared.line.TurnLine.{TurnLine}
 use Rattle.load_controller.specs.Journal.{begun, start_line, Follows, causes_of, all_causes, IsLawful, last_epoch}
 use Rattle.load_controller.specs.Journal.{last_line, last_of, due_lines, due_in, AreLawful as AreLawfulJournals}

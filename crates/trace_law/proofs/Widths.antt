@@ -4,13 +4,13 @@ use Rattle.std.proofs.Common.{cond, not, List, [], ◌∷◌, length}
 use Rattle.std.specs.Prelude.{filter, map, sum_by, ◌==◌}
 use Rattle.std.specs.List.{AllByRecursion}
 use Rattle.std.proofs.lemmas.Bool.{cases_lt, eqb-true, eq-eqb}
-use Rattle.join_rows.specs.declared.table.Side.{Side}
-use Rattle.join_rows.specs.declared.table.Side.TheVariants.{R, S}
-use Rattle.join_rows.specs.Lists.{IsWithinBag, gather, total}
-use Rattle.join_rows.proofs.Bags.{only_if}
-use Rattle.join_rows.proofs.Everywhere.{weaken, all-front, all-back, all-append, all-part}
-use Rattle.join_rows.proofs.Totals.{total_same, total-zero}
-use Rattle.join_rows.proofs.Within.{IsWithinBag-trans, within_same, within-refl, filtered_within, none_fails}
+use Rattle.row_cells.specs.declared.table.Side.{Side}
+use Rattle.row_cells.specs.declared.table.Side.TheVariants.{R, S}
+use Rattle.row_cells.specs.Lists.{IsWithinBag, gather, total}
+use Rattle.row_cells.proofs.Bags.{only_if}
+use Rattle.row_cells.proofs.Everywhere.{weaken, all-front, all-back, all-append, all-part}
+use Rattle.row_cells.proofs.Totals.{total_same, total-zero}
+use Rattle.row_cells.proofs.Within.{IsWithinBag-trans, within_same, within-refl, filtered_within, none_fails}
 use Rattle.row_tickets.specs.Share.{place_at}
 use Rattle.theta_pred.specs.Formula.{Meaning}
 use Rattle.theta_pred.specs.Truth.{width_of}

@@ -2,10 +2,10 @@
 use Rattle.std.specs.Prelude.{Option, Some, unwrap_or, ◌≡◌, ℕ, ◌+◌, ◌-◌, ◌^◌, ◌<◌, ◌≤◌, max, not, filter, if◌then◌else◌}
 use Rattle.std.specs.Prelude.{◌==◌, ◌⊎◌, Bool, ◌&&◌, slice_index_or, List, [], ◌∷◌, ◌++◌, map, length}
 use Rattle.std.specs.List.{range_with_len, sum, AllByRecursion}
-use Rattle.join_rows.specs.declared.table.Side.{Side}
-use Rattle.join_rows.specs.declared.table.Side.TheVariants.{R, S}
-use Rattle.join_rows.specs.declared.table.Cell.{Cell}
-use Rattle.join_rows.specs.Lists.{IsPrefix, SameBag, IsWithinBag, gather, counting_from, total}
+use Rattle.row_cells.specs.declared.table.Side.{Side}
+use Rattle.row_cells.specs.declared.table.Side.TheVariants.{R, S}
+use Rattle.row_cells.specs.declared.table.Cell.{Cell}
+use Rattle.row_cells.specs.Lists.{IsPrefix, SameBag, IsWithinBag, gather, counting_from, total}
 use Rattle.epoch_tags.specs.declared.actor.Actor.TheVariants.{Joiner}
 use Rattle.epoch_tags.specs.Links.{HasLink}
 use Rattle.epoch_tags.specs.declared.tuple.Tuple.{Tuple}

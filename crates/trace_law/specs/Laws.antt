@@ -2,8 +2,8 @@
 use Rattle.std.specs.Prelude.{◌∷◌, length, true, IsSome, ℕ, ◌≡◌, ◌+◌, ◌*◌, ◌^◌, ◌<◌, ◌≤◌, All, Some, List, [], map}
 use Rattle.std.specs.Prelude.{reverse}
 use Rattle.std.specs.List.{AllByRecursion}
-use Rattle.join_rows.specs.declared.table.Side.TheVariants.{R, S}
-use Rattle.join_rows.specs.Lists.{SameBag, IsWithinBag}
+use Rattle.row_cells.specs.declared.table.Side.TheVariants.{R, S}
+use Rattle.row_cells.specs.Lists.{SameBag, IsWithinBag}
 use Rattle.epoch_tags.specs.declared.tuple.Pair.{Pair}
 use Rattle.load_controller.specs.declared.line.TurnLine.{TurnLine}
 use Rattle.load_controller.specs.Journal.{IsLawful, IsLawfulSoFar, begun, start_line, last_epoch, due_lines}
@@ -16,7 +16,7 @@ use Rattle.trace_law.specs.Widths.{HasRow}
 use Rattle.pair_collector.specs.declared.collected.Collected.{Collected}
 use Rattle.pair_collector.specs.Answer.{Collects}
 use Rattle.trace_law.specs.declared.run.Run.{Run}
-use Rattle.join_rows.specs.declared.table.Side.{Side}
+use Rattle.row_cells.specs.declared.table.Side.{Side}
 use Rattle.row_tickets.specs.Share.{share, place_at}
 use Rattle.epoch_tags.specs.Messages.{turns, moved_of}
 use Rattle.epoch_tags.specs.declared.tuple.Tuple.{Tuple}

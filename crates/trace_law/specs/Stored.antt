@@ -1,6 +1,6 @@
 -- Which rows a joiner has stored.
 use Rattle.std.specs.Prelude.{ℕ, ◌+◌, ◌^◌, ◌<◌, ◌≤◌, nat_le, Bool, ◌&&◌, ◌⊎◌, List, map, filter, filter_map, option_map}
-use Rattle.join_rows.specs.Lists.{SameBag, IsWithinBag}
+use Rattle.row_cells.specs.Lists.{SameBag, IsWithinBag}
 use Rattle.epoch_tags.specs.declared.tuple.Tuple.{Tuple}
 use Rattle.epoch_tags.specs.Messages.{turns, ends}
 use Rattle.migration_plan.specs.Steps.{holds}

@@ -1,8 +1,8 @@
 -- A worked row: four joiners, one feeder, batches of four, all rows of R first, eight rows on each side,
 -- each step settled before the next count.
 use Rattle.std.specs.Prelude.{◌≡◌, ℕ, None, List, [], ◌∷◌, map, reverse, refl, replicate, unwrap_or}
-use Rattle.join_rows.specs.declared.table.Side.{Side}
-use Rattle.join_rows.specs.declared.table.Side.TheVariants.{R, S}
+use Rattle.row_cells.specs.declared.table.Side.{Side}
+use Rattle.row_cells.specs.declared.table.Side.TheVariants.{R, S}
 use Rattle.theta_pred.specs.Formula.{every, no_formula}
 use Rattle.load_controller.specs.declared.line.Cause.TheVariants.{Count, Settle, Drain}
 use Rattle.load_controller.specs.declared.line.TurnLine.{TurnLine}

@@ -1,5 +1,6 @@
 use grid_map::Weights;
-use join_rows::{Bytes, MapShelf, Names, Table, read_table};
+use join_rows::{MapShelf, read_table};
+use row_cells::{Bytes, Names, Table};
 use row_tickets::Feed;
 use std::alloc::{AllocError, Global};
 use std::test::Fail;

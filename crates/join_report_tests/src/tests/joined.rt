@@ -1,6 +1,6 @@
 use epoch_tags::Pair;
 use join_report::{rows_text, summary_text};
-use join_rows::{Bytes, Cell, Cells, Rows};
+use row_cells::{Bytes, Cell, Cells, Rows};
 use std::alloc::{AllocError, Global};
 use std::process::Abort;
 use std::test::Fail;

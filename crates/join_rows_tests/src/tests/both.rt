@@ -1,8 +1,7 @@
 // Two files' tables, made side by side, and bytes that are judged before.
 
-use join_rows::{
-    Bytes, Made, MapShelf, Table, TableFault, both_tables, judge, read_bytes, read_table, table_in,
-};
+use join_rows::{Made, MapShelf, TableFault, both_tables, judge, read_bytes, read_table, table_in};
+use row_cells::{Bytes, Table};
 use std::alloc::{AllocError, Global};
 use std::process::Abort;
 use std::test::Fail;

@@ -1,6 +1,7 @@
 ghost use Rattle.std.specs.Prelude.{◌≤◌, ◌^◌};
 
-use join_rows::{Bytes, Side, Table, make_table};
+use join_rows::make_table;
+use row_cells::{Bytes, Side, Table};
 use std::alloc::{AllocError, Global};
 use std::test::Fail;
 

@@ -1,4 +1,4 @@
-use join_rows::{Bytes, Cell};
+use row_cells::{Bytes, Cell};
 use std::test::Fail;
 
 #[test]

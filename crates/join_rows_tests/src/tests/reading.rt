@@ -1,7 +1,8 @@
 ghost use Rattle.std.specs.Prelude.{IfOk};
 ghost use Rattle.join_rows.specs.Records.{IsTable};
 
-use join_rows::{BadNumber, Failed, MapShelf, Shelf, Table, TableFault, read_table};
+use join_rows::{Failed, MapShelf, Shelf, TableFault, read_table};
+use row_cells::{BadNumber, Table};
 use std::alloc::{AllocError, Global};
 use std::process::Abort;
 use std::test::Fail;

@@ -1,4 +1,5 @@
-use join_rows::{Bytes, Cell, Cells, MapShelf, read_table};
+use join_rows::{MapShelf, read_table};
+use row_cells::{Bytes, Cell, Cells};
 use std::alloc::{AllocError, Global};
 use std::process::Abort;
 use std::test::Fail;

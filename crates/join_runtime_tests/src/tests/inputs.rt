@@ -1,6 +1,6 @@
 // The inputs of the tests, of one column a side.
 
-use join_rows::{Bytes, Cell, Cells, Names, Rows, Table};
+use row_cells::{Bytes, Cell, Cells, Names, Rows, Table};
 use std::alloc::{AllocError, Global};
 use theta_pred::{Theta, resolve};
 use theta_text::parse;

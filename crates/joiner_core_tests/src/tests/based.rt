@@ -7,8 +7,8 @@ ghost use Rattle.joiner_core.specs.State.{tuples_of, AreRows, IsKeyOf};
 
 use super::given::row;
 use super::{play, theta};
-use join_rows::Side;
 use joiner_core::Joiner;
+use row_cells::Side;
 use std::alloc::{AllocError, Global};
 use std::process::Abort;
 use std::test::Fail;

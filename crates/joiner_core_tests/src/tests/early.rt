@@ -3,8 +3,8 @@
 use super::given::row;
 use super::{first, give, play, theta};
 use epoch_tags::{Actor, ToJoiner};
-use join_rows::Side;
 use joiner_core::Joiner;
+use row_cells::Side;
 use std::alloc::{AllocError, Global};
 use std::process::Abort;
 use std::test::Fail;

@@ -3,7 +3,7 @@
 ghost use Rattle.std.specs.Prelude.{◌≡◌, length, IfOk};
 
 use epoch_tags::{Actor, ToJoiner, Tuple};
-use join_rows::{Cell, Cells, Side};
+use row_cells::{Cell, Cells, Side};
 use std::alloc::{AllocError, Global};
 
 pub(super) fn number(word: &str) -> u32 {

@@ -3,10 +3,10 @@
 use super::inputs::{eight_rows_a_side, four_joiners};
 use super::is;
 use epoch_tags::{Actor, Tuples};
-use join_rows::Side;
 use joiner_core::Joiner;
 use link_trace::{Core, Input, Run, Setting, Step, World};
 use load_controller::{Cause, Journal};
+use row_cells::Side;
 use std::alloc::{AllocError, Global};
 use std::process::Abort;
 use std::test::Fail;

@@ -1,8 +1,8 @@
 // The inputs and settings of the worked runs.
 
 use grid_map::Weights;
-use join_rows::{Bytes, Cell, Cells, Names, Rows, Table};
 use link_trace::{Input, Setting};
+use row_cells::{Bytes, Cell, Cells, Names, Rows, Table};
 use row_tickets::Feed;
 use std::alloc::{AllocError, Global};
 use theta_pred::{Theta, resolve};

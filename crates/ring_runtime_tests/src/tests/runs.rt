@@ -2,8 +2,8 @@
 
 use super::{Ticketed, header, is, over, row, setting, three_rows_a_side};
 use epoch_tags::Actor;
-use join_rows::{Bytes, Rows, Table};
 use ring_runtime::{RingRun, ring_run};
+use row_cells::{Bytes, Rows, Table};
 use std::alloc::{AllocError, Global};
 use std::process::Abort;
 use std::test::Fail;

@@ -15,7 +15,7 @@ use crate::places::Found;
 use crate::probe::Query;
 use crate::probe::found_pairs::{try_one, try_places};
 use epoch_tags::{Pairs, Tuple};
-use join_rows::Side;
+use row_cells::Side;
 use smallvec::SmallVec;
 use std::alloc::{AllocError, Global};
 use std::sync::ledger::Ledger;

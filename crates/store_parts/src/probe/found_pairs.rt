@@ -10,7 +10,7 @@ use crate::counted_looks::Looks;
 use crate::counted_steps::Steps;
 use crate::probe::Query;
 use epoch_tags::{Pair, Pairs, Tuple};
-use join_rows::Side;
+use row_cells::Side;
 use std::alloc::AllocError;
 use std::sync::ledger::Ledger;
 use theta_pred::Theta;

@@ -1,7 +1,7 @@
 // How a store comes to its tuples: none at first, an access by which they are found, one more, those that are kept.
 
 ghost use Rattle.std.specs.Prelude.{◌≡◌, ◌<◌, ◌≤◌, ◌^◌, [], None, IfOk, OnOk, OnErr};
-ghost use Rattle.join_rows.specs.declared.table.Side.TheVariants.{R as R', S as S'};
+ghost use Rattle.row_cells.specs.declared.table.Side.TheVariants.{R as R', S as S'};
 ghost use Rattle.store_parts.specs.Indexed.{IsIndexed};
 ghost use Rattle.store_parts.specs.Keyed.{FitsKey, IsOwn};
 ghost use Rattle.store_parts.specs.Matches.{HasWidth};
@@ -13,7 +13,7 @@ use crate::index::Index;
 use crate::store::Store;
 use epoch_tags::Tuple;
 use grid_map::Shape;
-use join_rows::Side;
+use row_cells::Side;
 use std::alloc::{AllocError, Global};
 use std::mem;
 use theta_pred::{Access, KeyAtom, Theta};

@@ -4,7 +4,7 @@ ghost use Rattle.std.specs.Prelude.{◌≡◌, None};
 
 use epoch_tags::{Tuple, Tuples};
 use grid_map::Shape;
-use join_rows::{Cells, Side};
+use row_cells::{Cells, Side};
 use std::alloc::{AllocError, Global};
 use std::process::Abort;
 use std::test::*;

@@ -9,7 +9,7 @@ use super::probes::{Probe, finds};
 use super::rows::{add, cell, row};
 use super::{accessed, key, no_key, over_x_and_a};
 use epoch_tags::Tuple;
-use join_rows::{Cell, Side};
+use row_cells::{Cell, Side};
 use std::alloc::{AllocError, Global};
 use std::process::Abort;
 use std::test::*;

@@ -6,7 +6,7 @@ ghost use Rattle.store_parts.specs.Keyed.{IsOwn};
 ghost use Rattle.store_parts.specs.Stored.{HaveWidths};
 
 use epoch_tags::Tuple;
-use join_rows::{Bytes, Cell, Cells, Side};
+use row_cells::{Bytes, Cell, Cells, Side};
 use std::alloc::{AllocError, Global};
 use store_parts::Store;
 use theta_pred::Theta;

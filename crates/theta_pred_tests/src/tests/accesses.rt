@@ -1,7 +1,7 @@
 // The accesses of predicates.
 
 use super::texts::{is_told, over_x_and_a, write_atom, write_sums};
-use join_rows::Side;
+use row_cells::Side;
 use std::alloc::{AllocError, Global};
 use std::process::Abort;
 use std::test::Fail;

@@ -3,7 +3,8 @@
 ghost use Rattle.std.specs.Prelude.{◌<◌, length, IfOk};
 ghost use Rattle.join_rows.specs.Records.{IsTable};
 
-use join_rows::{MapShelf, Table, read_table};
+use join_rows::{MapShelf, read_table};
+use row_cells::Table;
 use std::alloc::{AllocError, Global};
 use std::process::Abort;
 use std::test::Fail;

@@ -5,7 +5,7 @@ ghost use Rattle.theta_tree.specs.Sizes.{longest_sum as longest_sum'};
 
 use super::predicates::{below_3, both, column, two};
 use super::{has_short_sums, header};
-use join_rows::{Bytes, Names, Side};
+use row_cells::{Bytes, Names, Side};
 use std::alloc::{AllocError, Global};
 use std::process::Abort;
 use std::test::Fail;

@@ -1,6 +1,6 @@
 // Predicates, built node by node.
 
-use join_rows::{Bytes, Side};
+use row_cells::{Bytes, Side};
 use std::alloc::{AllocError, Global};
 use theta_pred::{Name, Op, Pred, Signed, Sum, Term, TextSide};
 

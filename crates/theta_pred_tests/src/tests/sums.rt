@@ -3,7 +3,7 @@
 ghost use Rattle.std.specs.Prelude.{◌≡◌, length, IfOk};
 
 use super::texts::{is_told, write_number};
-use join_rows::{Bytes, Cell, Cells};
+use row_cells::{Bytes, Cell, Cells};
 use std::alloc::{AllocError, Global};
 use std::process::Abort;
 use std::test::Fail;

@@ -4,7 +4,7 @@ ghost use Rattle.std.specs.Prelude.{◌≤◌};
 ghost use Rattle.theta_tree.specs.Sizes.{longest_sum};
 
 use super::header;
-use join_rows::Names;
+use row_cells::Names;
 use std::alloc::{AllocError, Global};
 use std::process::Abort;
 use theta_pred::{KeyAtom, Linear, Pred, Theta, resolve};

@@ -6,7 +6,7 @@ ghost use Rattle.theta_text.specs.Kinds.{token_at};
 
 use crate::lexer::kind::Kind;
 use crate::quoted_texts::content;
-use join_rows::Bytes;
+use row_cells::Bytes;
 use std::alloc::{AllocError, Global};
 use theta_tree::{Keyword, Op, Token};
 

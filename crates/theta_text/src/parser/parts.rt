@@ -9,7 +9,7 @@ ghost use Rattle.theta_text.specs.Views.{Leads};
 ghost use Rattle.theta_text.specs.Starts.{named_side, is_text};
 
 use crate::parser::number::number;
-use join_rows::{Bytes, Side};
+use row_cells::{Bytes, Side};
 use theta_tree::{Keyword, Name, Op, Placed, PredFault, Term, TextSide, Token};
 
 // The first token and the others.

@@ -1,6 +1,6 @@
 // A tree in brackets: `[+r{x} = +s{y}]`, `[abs +r{x} <= 2]`, `[text r{x} = <y>]`, `(A and B)`.
 
-use join_rows::{Bytes, Side};
+use row_cells::{Bytes, Side};
 use std::alloc::{AllocError, Global};
 use theta_tree::{Name, Op, Pred, Sum, Term, TextSide};
 

@@ -1,4 +1,4 @@
-use Rattle.join_rows.specs.declared.table.Side.TheVariants.{R, S}
+use Rattle.row_cells.specs.declared.table.Side.TheVariants.{R, S}
 use Rattle.actor_core.proofs.start.load.Goals as goal
 
 pub share-requires-clause-rows_r : goal.share-requires-clause-rows_r

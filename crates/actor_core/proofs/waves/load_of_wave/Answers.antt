@@ -1,5 +1,5 @@
 use Rattle.std.proofs.Common.{arith}
-use Rattle.join_rows.specs.declared.table.Side.TheVariants.{R, S}
+use Rattle.row_cells.specs.declared.table.Side.TheVariants.{R, S}
 use Rattle.actor_core.proofs.waves.load_of_wave.Goals as goal
 
 pub share-requires-clause-rows_r : goal.share-requires-clause-rows_r

@@ -1,5 +1,5 @@
 use Rattle.std.proofs.Common.{◌≡◌, ◌*◌}
-use Rattle.join_rows.specs.Lists.{gather}
+use Rattle.row_cells.specs.Lists.{gather}
 use Rattle.elastic_grow.specs.Stores.{side_at}
 use Rattle.elastic_grow.proofs.whole.gathered.Given as goal
 

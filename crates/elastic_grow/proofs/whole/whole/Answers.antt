@@ -1,6 +1,6 @@
 use Rattle.std.proofs.Common.{◌*◌, ◌++◌, ◌∙◌, ap, ap₂, ℕ, List}
-use Rattle.join_rows.specs.declared.table.Side.TheVariants.{R, S}
-use Rattle.join_rows.specs.Lists.{gather}
+use Rattle.row_cells.specs.declared.table.Side.TheVariants.{R, S}
+use Rattle.row_cells.specs.Lists.{gather}
 use Rattle.epoch_tags.specs.declared.tuple.Tuple.{Tuple}
 use Rattle.elastic_grow.specs.Stores.{side_at}
 use Rattle.elastic_grow.proofs.OneStore.{whole_is}

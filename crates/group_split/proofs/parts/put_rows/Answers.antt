@@ -1,6 +1,6 @@
 use Rattle.std.proofs.Common.{◌<◌, subst, sym}
 use Rattle.std.specs.Prelude.{All}
-use Rattle.join_rows.specs.declared.table.Side.TheVariants.{R}
+use Rattle.row_cells.specs.declared.table.Side.TheVariants.{R}
 use Rattle.group_split.proofs.parts.put_rows.Goals as goal
 
 pub tickets_at-requires : goal.tickets_at-requires

@@ -1,5 +1,5 @@
 use Rattle.std.proofs.Common.{◌≡◌, ◌≤◌, ◌^◌, ◌∙◌, ap, length, arith}
-use Rattle.join_rows.specs.declared.table.Side.TheVariants.{R, S}
+use Rattle.row_cells.specs.declared.table.Side.TheVariants.{R, S}
 use Rattle.group_split.specs.Parts.{part}
 use Rattle.group_split.proofs.Parted.{part_few}
 use Rattle.join_cli.specs.Dealt.{group_input, group_setting}

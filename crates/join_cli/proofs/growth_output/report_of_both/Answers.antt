@@ -1,5 +1,5 @@
 use Rattle.std.proofs.Common.{◌≤◌, ◌^◌, length, arith}
-use Rattle.join_rows.specs.declared.table.Side.TheVariants.{R, S}
+use Rattle.row_cells.specs.declared.table.Side.TheVariants.{R, S}
 use Rattle.join_cli.proofs.growth_output.report_of_both.Goals as goal
 
 pub grown_report_text-requires-clause-rows_r : goal.grown_report_text-requires-clause-rows_r

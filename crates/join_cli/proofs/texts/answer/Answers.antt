@@ -1,6 +1,6 @@
 use Rattle.std.proofs.Common.{◌<◌, ◌^◌, subst, sym}
 use Rattle.std.specs.Prelude.{sum_by}
-use Rattle.join_rows.specs.declared.table.Side.TheVariants.{R, S}
+use Rattle.row_cells.specs.declared.table.Side.TheVariants.{R, S}
 use Rattle.trace_law.specs.Join.{matches_of, rows_of}
 use Rattle.join_report.specs.Summary.{numbers_of}
 use Rattle.join_report.proofs.LoopSums.{loop_sum_fits}

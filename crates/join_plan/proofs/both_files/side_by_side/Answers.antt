@@ -1,6 +1,6 @@
 use Rattle.std.proofs.Common.{Err, ap, arith, refl, rules, subst, sym}
 use Rattle.join_rows.specs.Records.{table_of}
-use Rattle.join_rows.specs.declared.table.Side.TheVariants.{R, S}
+use Rattle.row_cells.specs.declared.table.Side.TheVariants.{R, S}
 use Rattle.join_words.specs.Words.{asked}
 use Rattle.join_plan.specs.Causes.{Refuses}
 use Rattle.join_plan.specs.Files.{or_refused}

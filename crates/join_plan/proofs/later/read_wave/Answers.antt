@@ -1,5 +1,5 @@
 use Rattle.std.proofs.Common.{[], ◌∷◌, arith, refl}
-use Rattle.join_rows.specs.declared.table.Side.TheVariants.{R, S}
+use Rattle.row_cells.specs.declared.table.Side.TheVariants.{R, S}
 use Rattle.join_plan.specs.Files.{Source}
 use Rattle.join_plan.proofs.LaterFiles.{seen_last, seen_next, seen_refused}
 use Rattle.join_plan.proofs.Refusals.{later_refuses_if}

@@ -1,5 +1,5 @@
 use Rattle.std.proofs.Common.{◌∙◌, ◌<◌, ◌+◌, All, ap, sym, subst, length}
-use Rattle.join_rows.specs.declared.table.Side.TheVariants.{R}
+use Rattle.row_cells.specs.declared.table.Side.TheVariants.{R}
 use Rattle.join_plan.specs.Numbers.{joined_fault}
 use Rattle.join_plan.proofs.Picked.{summed_columns-places}
 use Rattle.join_plan.proofs.numbers.joined_fault.Goals as goal

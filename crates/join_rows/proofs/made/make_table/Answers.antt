@@ -1,7 +1,7 @@
 use Rattle.std.proofs.Common.{◌≡◌, ◌+◌, sym, arith}
 use Rattle.std.proofs.lemmas.List.FromFn.{map-range_with_len_more}
 use Rattle.join_rows.specs.Made.{made_fields}
-use Rattle.join_rows.specs.Records.{cells_of}
+use Rattle.row_cells.specs.Cells.{cells_of}
 use Rattle.join_rows.proofs.MadeTables.{made-shape}
 use Rattle.join_rows.proofs.made.make_table.Goals as goal
 

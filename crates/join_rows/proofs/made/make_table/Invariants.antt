@@ -1,7 +1,7 @@
 use Rattle.std.proofs.Common.{◌≡◌, map}
 use Rattle.std.specs.List.{range_with_len}
 use Rattle.join_rows.specs.Made.{made_fields}
-use Rattle.join_rows.specs.Records.{cells_of}
+use Rattle.row_cells.specs.Cells.{cells_of}
 use Rattle.join_rows.proofs.made.make_table.Given as goal
 
 abbrev pub invariant-loop-place : goal.invariant-loop-place

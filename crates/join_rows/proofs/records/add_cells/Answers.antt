@@ -1,7 +1,7 @@
 use Rattle.std.proofs.Common.{◌∙◌, ◌<◌, ◌∷◌, ◌++◌, [], ap, length, arith, sym, take}
 use Rattle.std.proofs.lemmas.List.{append_assoc}
 use Rattle.csv.specs.Records.{fields_of}
-use Rattle.join_rows.specs.Records.{cell_of, cells_of}
+use Rattle.row_cells.specs.Cells.{cell_of, cells_of}
 use Rattle.join_rows.proofs.Fields.{fields-done, fields-more, fields-within}
 use Rattle.join_rows.proofs.records.add_cells.Goals as goal
 

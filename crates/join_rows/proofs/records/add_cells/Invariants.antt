@@ -1,6 +1,6 @@
 use Rattle.std.proofs.Common.{◌≡◌, ◌-◌, ◌++◌, length, take}
 use Rattle.csv.specs.Records.{fields_of}
-use Rattle.join_rows.specs.Records.{cells_of}
+use Rattle.row_cells.specs.Cells.{cells_of}
 use Rattle.join_rows.proofs.records.add_cells.Given as goal
 
 abbrev pub invariant-loop-field : goal.invariant-loop-field

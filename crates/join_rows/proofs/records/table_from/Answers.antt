@@ -2,11 +2,12 @@ use Rattle.std.proofs.Common.{◌≡◌, ◌∙◌, ◌++◌, ◌∷◌, length-
 use Rattle.std.proofs.Common.{◌*◌, ◌<◌, arith, map, refl, sym}
 use Rattle.csv.specs.Reading.{strip_bom}
 use Rattle.csv.specs.Records.{fields_of}
-use Rattle.join_rows.specs.Records.{after_marks, cells_of, records_of}
+use Rattle.row_cells.specs.Cells.{cells_of}
+use Rattle.join_rows.specs.Records.{after_marks, records_of}
 use Rattle.join_rows.proofs.Counted.{records-begin}
 use Rattle.join_rows.proofs.Marks.{marks-gone}
 use Rattle.join_rows.proofs.Taken.{first_read, last_read, more_read, no_read}
-use Rattle.join_rows.proofs.SharedRows.{cells-are_rows, cells-counted, cells-more}
+use Rattle.row_cells.proofs.SharedRows.{cells-are_rows, cells-counted, cells-more}
 use Rattle.join_rows.proofs.Tables.{answers-good, answers-long, answers-narrow, answers-none, wide-more}
 use Rattle.join_rows.proofs.records.table_from.Goals as goal
 

@@ -3,7 +3,8 @@ use Rattle.std.specs.List.{flat_map}
 use Rattle.csv.specs.Reading.{Reached, Ready, default_config, source_of}
 use Rattle.csv.specs.declared.parser.State.TheVariants as st
 use Rattle.csv.specs.declared.reader.Trim.TheVariants as trim
-use Rattle.join_rows.specs.Records.{AreWide, after_marks, cells_of}
+use Rattle.row_cells.specs.Cells.{AreWide, cells_of}
+use Rattle.join_rows.specs.Records.{after_marks}
 use Rattle.join_rows.proofs.records.table_from.Given as goal
 
 abbrev pub invariant-rows : goal.invariant-rows

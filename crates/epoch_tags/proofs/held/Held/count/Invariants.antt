@@ -1,6 +1,6 @@
 use Rattle.std.proofs.Common.{◌≡◌, ◌^◌, ◌-◌, length}
 use Rattle.std.specs.Prelude.{min}
-use Rattle.join_rows.specs.Lists.{total}
+use Rattle.row_cells.specs.Lists.{total}
 use Rattle.epoch_tags.specs.Held.{held_at}
 use Rattle.epoch_tags.proofs.held.Held.count.Given as goal
 

@@ -1,6 +1,6 @@
 use Rattle.std.proofs.Common.{subst, sym, ap, ℕ}
-use Rattle.join_rows.specs.Lists.{SameBag}
-use Rattle.join_rows.proofs.Bags.{SameBag-trans}
+use Rattle.row_cells.specs.Lists.{SameBag}
+use Rattle.row_cells.proofs.Bags.{SameBag-trans}
 use Rattle.joiner_law.specs.Law.{Taken, store}
 use Rattle.joiner_core.specs.State.{Stocked, tuples_of, IsAccessOf, IsKeyOf}
 use Rattle.joiner_core.proofs.WholeLaw.{store-law}

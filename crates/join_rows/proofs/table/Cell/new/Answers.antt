@@ -1,4 +1,0 @@
-use Rattle.join_rows.proofs.table.Cell.new.Goals as goal
-
-pub returns-clause-number : goal.returns-clause-number
-returns-clause-number c = rw c.as_slice.ensures at c.number_in-num.ensures.exact

@@ -1,0 +1,44 @@
+-- Rows without a bad cell in a column.
+use Rattle.std.proofs.Common.{◌≡◌, ◌≤◌, ◌<◌, ◌+◌, ◌∙◌, ◌⊎◌, inl, inr, ℕ, true, false, List, Some, length, arith, sym}
+use Rattle.std.proofs.Common.{ap, subst}
+use Rattle.std.specs.List.{slice_get}
+use Rattle.std.proofs.lemmas.Option.{slice_get_past}
+use Rattle.row_cells.specs.Columns.{IsBad, is_bad}
+use Rattle.row_cells.specs.declared.table.Cell.{Cell}
+
+-- a row whose cell is good
+pub good-row : (column : ℕ) (row : List Cell) (cell : Cell) → slice_get row column ≡ Some cell → is_bad cell ≡ false
+    → ¬ (IsBad column row)
+good-row column row cell there good bad =
+    let same : cell ≡ bad.cell = let e : Some cell ≡ Some bad.cell = sym there ∙ bad.there in cc e in
+    let never : false ≡ true = sym good ∙ ap is_bad same ∙ bad.bad in
+    cc never
+
+-- one more such row
+pub good-more : (column : ℕ) (rows : List (List Cell)) (place : ℕ) (row : List Cell) → slice_get rows place ≡ Some row
+    → ¬ (IsBad column row)
+    → ((earlier : ℕ) (other : List Cell) → earlier < place → slice_get rows earlier ≡ Some other
+    → ¬ (IsBad column other))
+    → (earlier : ℕ) (other : List Cell) → earlier < place + 1 → slice_get rows earlier ≡ Some other
+    → ¬ (IsBad column other)
+good-more column rows place row there good before earlier other h e = elim cases [
+  | inl less ↦ before earlier other less e
+  | inr same ↦
+      let row_is : row ≡ other = let p : Some row ≡ Some other = sym there ∙ sym (ap (slice_get rows) same) ∙ e in
+      cc p in
+      subst (λ (r : List Cell). ¬ (IsBad column r)) row_is good
+]
+  where
+    cases : (earlier < place) ⊎ (earlier ≡ place)
+    cases = grind (arith, h)
+
+-- a row of the list stands below its length
+pub row-within : (rows : List (List Cell)) (place : ℕ) (row : List Cell) → slice_get rows place ≡ Some row
+    → place < length rows
+row-within rows place row e = elim cases [
+  | inl less ↦ less
+  | inr past ↦ let never = sym (slice_get_past rows place past) ∙ e in cc never
+]
+  where
+    cases : (place < length rows) ⊎ (length rows ≤ place)
+    cases = grind arith

@@ -1,0 +1,9 @@
+pub mod Bags
+pub mod Totals
+pub mod RisingNumbers
+pub mod Everywhere
+pub mod Within
+pub mod Numbers
+pub mod ShortNumbers
+pub mod BadCells
+pub mod SharedRows

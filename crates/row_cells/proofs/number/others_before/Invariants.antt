@@ -1,0 +1,9 @@
+use Rattle.std.proofs.Common.{◌≡◌, ◌-◌, ◌+◌, ◌≤◌, length, drop}
+use Rattle.row_cells.specs.Numbers.{others_at}
+use Rattle.row_cells.proofs.number.others_before.Given as goal
+
+abbrev pub invariant-loop-place : goal.invariant-loop-place
+invariant-loop-place l = (others_at l.text ≡ l.place + others_at (drop l.place l.text)) × (l.place ≤ length l.text)
+
+abbrev pub decreases-loop-place : goal.decreases-loop-place
+decreases-loop-place l = length l.text - l.place
