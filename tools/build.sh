@@ -100,7 +100,7 @@ prove() {
     if [ "$2" = chain ] || [ "$places" = 1 ]; then
         (cd "$room/$1" && rt lib --jobs "$processors")
     else
-        (cd "$room/$1" && nice -n 10 rt lib --jobs 1)
+        (cd "$room/$1" && nice -n 19 rt lib --jobs 1)
     fi
     proved=$?
     mv "$room/$1/out" "$top/crates/$1"
@@ -164,10 +164,18 @@ count_running() {
     echo $(($(count_of begun) - $(count_of proved)))
 }
 
-# Begins the first crate that is ready and not begun, where there is one.
+# Whether there is a place for one more crate. Where several stand side by side, one of the longest ways up has a place
+# more, so that it never waits for one that stands on none of them.
+has_place() {
+    most=$places
+    if [ "$1" = chain ] && [ "$places" -gt 1 ]; then most=$((places + 1)); fi
+    [ "$(count_running)" -lt "$most" ]
+}
+
+# Begins the first crate that is ready, has a place and is not begun, where there is one.
 begin_one() {
     while read -r each way _; do
-        if [ "$each" != "$crate" ] && [ ! -e "$rooms/$each.begun" ] && is_ready "$each"; then
+        if [ "$each" != "$crate" ] && [ ! -e "$rooms/$each.begun" ] && has_place "$way" && is_ready "$each"; then
             touch "$rooms/$each.begun"
             begun_count=$((begun_count + 1))
             echo "$name: proving $each, crate $begun_count of $crate_count" >&2
@@ -183,7 +191,7 @@ begin_one() {
 prove_libraries() {
     while [ -d "$rooms" ] && [ ! -e "$rooms/failed" ]; do
         [ "$(count_of proved)" -lt $((crate_count - 1)) ] || return 0
-        if [ "$(count_running)" -ge "$places" ] || ! begin_one; then sleep 1; fi
+        begin_one || sleep 1
     done
     [ ! -e "$rooms/failed" ] || echo "$name: $(head -n 1 "$rooms/failed") failed; waiting for what is under way" >&2
     wait
