@@ -234,6 +234,9 @@ done
 wait $!
 same 'the program has the number of the launcher' $! "$(cat got.out)"
 same 'standard input is handed on' 'some text' "$(echo 'some text' | "$tree/jm" input)"
+unset GLIBC_TUNABLES
+same 'the C library is asked for large pages' glibc.malloc.hugetlb=1 "$("$tree/jm" tunables)"
+same 'unless it is told otherwise' glibc.malloc.hugetlb=0 "$(GLIBC_TUNABLES=glibc.malloc.hugetlb=0 "$tree/jm" tunables)"
 
 # links
 mkdir -p elsewhere/deep

@@ -66,6 +66,8 @@ end_by() {
 # heeds signals while it stands at `wait`; by 9, since what is in the background has no standard input else.) Where
 # standard error is no terminal, 9 is in use, or standard input is closed, it runs in the launcher's place.
 run_clearing() {
+    # (the C library then asks for large pages, unless it is told otherwise: a tenth less time over large files)
+    export GLIBC_TUNABLES="${GLIBC_TUNABLES-glibc.malloc.hugetlb=1}"
     if [ ! -t 2 ] || [ -e /dev/fd/9 ] || [ ! -e /dev/fd/0 ]; then
         exec "$program" "$@"
     fi
