@@ -1,12 +1,13 @@
 #!/bin/sh
-# Tries the launchers, jm and jm-picture with tools/launch.sh and tools/build.sh, in a small made tree, over what stands
-# in tests/stand-ins for rt and for the programs; no Rattle is needed. It is no part of the gate, in which no test may
-# start a program. Tried are: a first build, of just the crates below the program, each behind those that it uses; a
-# second start, which builds nothing; sources edited in each place that counts, and in those that don't; a second
-# program, over what the first has proved; another kit; two first runs at once; a failed build, its report and the next
-# start; rt missing; statuses, signals and standard input of the program, over pipes and files; links to a launcher;
-# and, on a pseudo terminal (by script, of util-linux), statuses and standard input again, an interrupt of a run, what
-# ends a launcher otherwise, and an interrupt of a build.
+# Tries the launchers, jm and jm-picture with tools/launch.sh and tools/build.sh, in a small made tree, over what
+# stands in tests/stand-ins for rt and for the programs; no Rattle is needed. It is no part of the gate, in which no
+# test may start a program. Tried are: a first build, of just the crates below the program, each behind those that it
+# uses; a second start, which builds nothing; sources edited in each place that counts, and in those that don't; a
+# second program, over what the first has proved; another kit; two first runs at once; a failed build, its report and
+# the next start; the same where rt keeps what it proves beside itself; rt missing; statuses, signals and standard
+# input of the program, over pipes and files; links to a launcher; and, on a pseudo terminal (by script, of util-
+# linux), statuses and standard input again, an interrupt of a run, what ends a launcher otherwise, and an interrupt
+# of a build.
 set -u
 top=$(cd "$(dirname "$0")/.." && pwd -P)
 room=$(mktemp -d)
@@ -209,6 +210,39 @@ edit high/src/lib.rt 'mended'
 start jm status 0
 same 'a mended build runs' 0 "$status"
 asked 'what was proved is kept' 'lib high' 'run jm'
+
+# where rt can keep what it proves, in a folder beside the toolchain
+mkdir -p kit/bin
+cp "$top"/tests/stand-ins/* kit/bin
+beside=$PATH
+PATH=$room/kit/bin:$PATH
+start jm status 0
+asked 'what another way has proved is proved anew' ''
+forget_builds
+start jm --on 'r.x = s.y'
+same 'the program runs' 2 "$status"
+asked 'each crate is proved in a room, and so is the program' 'ci low' 'ci side' 'ci high' 'ci jm'
+holds 'low is proved before high' stands_before 'ci low' 'ci high'
+holds 'high is proved before jm' stands_before 'ci high' 'ci jm'
+holds 'the folder is made' test -d rattle-kept
+same 'no room is left' '' "$(ls -d "$tree"/crates/jm/out/rooms 2>/dev/null)"
+start jm status 0
+asked 'a second start asks rt for nothing' ''
+edit side/src/lib.rt 'yet another source'
+start jm status 0
+asked 'an edited source is proved, with what stands above it' 'ci side' 'ci high' 'ci jm'
+start jm-picture a word
+asked 'a second program takes what the first has proved' 'ci draw' 'ci jm_picture'
+edit high/src/lib.rt 'a fault'
+start jm status 0
+same 'a failed build ends with 1' 1 "$status"
+holds 'the crate that failed is named' grep -qx 'jm: high could not be proved or built' got.err
+holds 'its own error is told' grep -qx 'error: high has a fault' got.err
+holds 'and nothing of what is kept' lacks 'an error of old' got.err
+edit high/src/lib.rt 'mended'
+start jm status 0
+asked 'what was proved is kept' 'ci high' 'ci jm'
+PATH=$beside
 
 # rt missing
 forget_builds
