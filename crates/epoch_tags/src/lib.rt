@@ -15,6 +15,3 @@ pub use held::Held;
 pub use message::{Envelope, Msg, Post, Sends, ToCollector, ToController, ToFeeder, ToJoiner};
 pub use pairs::Pairs;
 pub use tuple::{Counts, Pair, Tuple, Tuples};
-
-#[cfg(test)]
-mod tests;

@@ -6,6 +6,3 @@ mod rows;
 
 pub use names::joined_names;
 pub use rows::joined_rows;
-
-#[cfg(test)]
-mod tests;

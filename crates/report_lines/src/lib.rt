@@ -5,6 +5,3 @@ mod report_numbers;
 mod text_of_each_line;
 
 pub use report_numbers::{Growth, Joiner, Joiners, Report, Step, Steps};
-
-#[cfg(test)]
-mod tests;

@@ -178,7 +178,8 @@ impl Cells {
     }
 }
 
-/// So many rows of that width, which share these cells.
+/// `count` rows of `width` cells each, which share these cells: row `i` has the `width` cells from `i * width` on. The
+/// only error is want of memory.
 pub fn rows_over(
     alloc: Global,
     cells: Vec<Cell>,

@@ -10,6 +10,3 @@ pub use deal::share;
 pub use draws::tickets;
 pub use generator::Tickets;
 pub use place::{Feed, Place, Share};
-
-#[cfg(test)]
-mod tests;

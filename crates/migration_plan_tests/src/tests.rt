@@ -1,6 +1,6 @@
-use crate::{chain, exchanged_side, kept, low_of, next_step, partner_in_step};
 use epoch_tags::Tuple;
 use grid_map::Shape;
+use migration_plan::{chain, exchanged_side, kept, low_of, next_step, partner_in_step};
 use row_cells::{Cells, Side};
 use std::test::Fail;
 

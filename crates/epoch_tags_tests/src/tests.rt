@@ -1,4 +1,4 @@
-use crate::{Counts, Held, Pair, Pairs, Tuple, all_down, are_all_up, is_up};
+use epoch_tags::{Counts, Held, Pair, Pairs, Tuple, all_down, are_all_up, is_up};
 use row_cells::{Cell, Cells, Side};
 use std::test::Fail;
 

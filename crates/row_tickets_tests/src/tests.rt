@@ -1,5 +1,5 @@
-use crate::{Feed, Place, Tickets, share, tickets};
 use row_cells::Side;
+use row_tickets::{Feed, Place, Tickets, share, tickets};
 use std::test::Fail;
 
 #[test]

@@ -1,4 +1,4 @@
-use crate::report_numbers::{Growth, Joiner, Report, Step};
+use report_lines::{Growth, Joiner, Report, Step};
 use row_cells::Items;
 use std::alloc::{AllocError, Global};
 use std::test::Fail;

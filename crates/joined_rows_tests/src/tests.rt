@@ -1,5 +1,5 @@
-use crate::{joined_names, joined_rows};
 use epoch_tags::Pair;
+use joined_rows::{joined_names, joined_rows};
 use row_cells::{Bytes, Cell, Cells, Names, Rows};
 use std::alloc::{AllocError, Global};
 use std::test::Fail;

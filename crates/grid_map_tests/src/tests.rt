@@ -1,4 +1,6 @@
-use crate::*;
+use grid_map::{
+    Shape, Weights, best_shift, col_of, copies, holds_r, holds_s, meet, partner, row_of,
+};
 
 const ONE: Weights = Weights { r: 1, s: 1 };
 
