@@ -4,7 +4,7 @@
 # test may start a program. Tried are: a first build, of just the crates below the program, each behind those that it
 # uses; a second start, which builds nothing; sources edited in each place that counts, and in those that don't; a
 # second program, over what the first has proved; another kit; two first runs at once; a failed build, its report and
-# the next start; the same where rt keeps what it proves beside itself; rt missing; statuses, signals and standard
+# the next start; the same where rt can be used as a module; rt missing; statuses, signals and standard
 # input of the program, over pipes and files; links to a launcher; and, on a pseudo terminal (by script, of util-
 # linux), statuses and standard input again, an interrupt of a run, what ends a launcher otherwise, and an interrupt
 # of a build.
@@ -60,7 +60,7 @@ PATH=$top/tests/stand-ins:$PATH
 tree="$room/a tree"
 mkdir -p "$tree/tools"
 cp "$top/jm" "$top/jm-picture" "$tree"
-cp "$top/tools/launch.sh" "$top/tools/build.sh" "$tree/tools"
+cp "$top/tools/launch.sh" "$top/tools/build.sh" "$top/tools/prove.py" "$tree/tools"
 cp "$top/HANDLES" "$tree"
 cat >"$tree/crates.txt" <<'CRATES'
 # each crate, with those that it uses
@@ -211,20 +211,20 @@ start jm status 0
 same 'a mended build runs' 0 "$status"
 asked 'what was proved is kept' 'lib high' 'run jm'
 
-# where rt can keep what it proves, in a folder beside the toolchain
+# where rt can be used as a module
 mkdir -p kit/bin
-cp "$top"/tests/stand-ins/* kit/bin
+cp "$top"/tests/stand-ins/program kit/bin
+cp "$top"/tests/stand-ins/rt-as-module kit/bin/rt
 beside=$PATH
 PATH=$room/kit/bin:$PATH
-start jm status 0
-asked 'what another way has proved is proved anew' ''
 forget_builds
 start jm --on 'r.x = s.y'
 same 'the program runs' 2 "$status"
-asked 'each crate is proved in a room, and so is the program' 'ci low' 'ci side' 'ci high' 'ci jm'
+asked 'each crate is proved, and so is the program' 'ci low' 'ci side' 'ci high' 'ci jm'
 holds 'low is proved before high' stands_before 'ci low' 'ci high'
 holds 'high is proved before jm' stands_before 'ci high' 'ci jm'
-holds 'the folder is made' test -d rattle-kept
+holds 'it says which crate it is at' grep -q '^jm: proving high, crate 3 of 4$' got.err
+same 'each line of a build begins with the name' '' "$(grep -v '^jm: ' got.err)"
 same 'no room is left' '' "$(ls -d "$tree"/crates/jm/out/rooms 2>/dev/null)"
 start jm status 0
 asked 'a second start asks rt for nothing' ''
@@ -238,10 +238,21 @@ start jm status 0
 same 'a failed build ends with 1' 1 "$status"
 holds 'the crate that failed is named' grep -qx 'jm: high could not be proved or built' got.err
 holds 'its own error is told' grep -qx 'error: high has a fault' got.err
-holds 'and nothing of what is kept' lacks 'an error of old' got.err
+edit high/src/lib.rt 'refused words'
+start jm status 0
+holds 'what rt says of a text is told' grep -qx 'rt: high has refused words' got.err
 edit high/src/lib.rt 'mended'
 start jm status 0
-asked 'what was proved is kept' 'ci high' 'ci jm'
+asked 'what was proved of the same text is kept' ''
+same 'the program runs' 0 "$status"
+edit low/src/lib.rt 'one more source'
+FREE=1 start jm status 0
+asked 'where memory is little each crate is a whole library' 'lib low' 'lib side' 'lib high' 'run jm'
+holds 'and that is told' grep -q '^jm: .* whole libraries: .* GB are free' got.err
+edit low/src/lib.rt 'and one more'
+WITHOUT=copy_crates start jm status 0
+asked 'so is it over another rt' 'lib low' 'lib high' 'run jm'
+same 'the program runs' 0 "$status"
 PATH=$beside
 
 # rt missing

@@ -82,64 +82,9 @@ all_below() {
     ' "$rooms/plan"
 }
 
-# Sets mark to the file in a crate's out/ that tells when it was proved. `rt ci` keeps what it has proved in a folder
-# beside the toolchain, cut to its statements, and proves other crates over these in about half the time that they take
-# over whole libraries. So it is taken where that folder can be used: it has to be one's own, as of root, who installed
-# the toolchain.
-choose_way() {
-    mark=out/rlib/stamp
-    home=$(readlink -f "$(command -v rt)") || return 0
-    case $home in */bin/rt) ;; *) return 0 ;; esac
-    home=${home%/bin/rt}
-    store=${home%/*}/rattle-kept
-    # (-O is in POSIX since 2024)
-    # shellcheck disable=SC3067
-    if mkdir -p "$store" 2>/dev/null && [ -O "$store" ] && [ -w "$store" ]; then mark=out/proved; fi
-}
-
-# Copies parts of a crate into a room.
-copy_parts() {
-    each=$1
-    shift
-    for part in "$@"; do
-        [ ! -e "$top/crates/$each/$part" ] || cp -R "$top/crates/$each/$part" "$room/$each" || return
-    done
-}
-
-# Proves a crate by `rt ci` in a room of its own, which is the top of a repository to it, over those below it, which it
-# has kept; and takes a program out of it.
-prove_over_statements() {
-    room=$rooms/$1/crates
-    mkdir -p "$room" "$rooms/$1/.git"
-    cp "$top/HANDLES" "$rooms/$1"
-    for each in $(all_below "$1") "$1"; do
-        grep "^${each}[ :]" "$top/crates.txt" >>"$rooms/$1/crates.txt"
-        mkdir -p "$room/$each"
-        copy_parts "$each" src specs proofs
-    done
-    copy_parts "$1" args stdin stdout status data
-    if [ "$2" = chain ] || [ "$places" = 1 ]; then
-        (cd "$rooms/$1" && rt ci)
-    else
-        (cd "$rooms/$1" && RT_JOBS=1 nice -n 19 rt ci)
-    fi
-    proved=$?
-    if [ "$proved" = 0 ]; then
-        mkdir -p "$top/crates/$1/out"
-        [ ! -x "$room/$1/out/$1" ] || cp "$room/$1/out/$1" "$top/crates/$1/out/$1"
-        touch "$top/crates/$1/$mark"
-    fi
-    rm -rf "${rooms:?}/$1"
-    return $proved
-}
-
 # Proves a library in a room of its own, over what those below it left: `rt` lets only one command at a time into the
 # crates that two of them use. What it leaves comes back to its folder.
 prove() {
-    if [ "$mark" = out/proved ]; then
-        prove_over_statements "$@"
-        return
-    fi
     room=$rooms/$1/crates
     mkdir -p "$room"
     cp "$top/HANDLES" "$rooms/$1"
@@ -182,18 +127,18 @@ is_ready() {
 # Whether what an earlier proof of a crate left is newer than its files, than what those that it uses left, and than
 # this kit. (Dates may mislead, after a copy say: the program's own build compares sums, and proves what is left.)
 is_kept() (
-    cd -- "$top/crates" && [ -e "$1/$mark" ] && is_ready "$1" || exit 1
+    cd -- "$top/crates" && [ -e "$1/out/rlib/stamp" ] && is_ready "$1" || exit 1
     older=jm/out/kit
     uses=$(sed -n "s/^$1 [a-z]*//p" "$rooms/plan")
     for used in $uses; do
-        older="$older $used/$mark"
+        older="$older $used/out/rlib/stamp"
     done
     for part in src specs proofs; do
         [ ! -d "$1/$part" ] || older="$older $1/$part"
     done
     # shellcheck disable=SC2086 # (a list)
-    [ -z "$(find $older -type f \( -name '*.rt' -o -name '*.antt' -o -name "${mark##*/}" -o -name kit \) \
-        -newer "$1/$mark" 2>&1)" ]
+    [ -z "$(find $older -type f \( -name '*.rt' -o -name '*.antt' -o -name stamp -o -name kit \) \
+        -newer "$1/out/rlib/stamp" 2>&1)" ]
 )
 
 # Marks the libraries that an earlier build, also of another program, has proved.
@@ -257,7 +202,7 @@ prove_libraries() {
 leave_rooms() {
     for room in "$rooms"/*/; do
         each=$(basename "$room")
-        if [ ! -d "$room/.git" ] && [ -d "$room/crates/$each/out" ] && [ ! -e "$top/crates/$each/out" ]; then
+        if [ -d "$room/crates/$each/out" ] && [ ! -e "$top/crates/$each/out" ]; then
             mv "$room/crates/$each/out" "$top/crates/$each"
         fi
     done
@@ -274,8 +219,37 @@ tell_failure() {
     failed=$(head -n 1 "$rooms/failed" 2>/dev/null || echo "$crate")
     [ ! -e "$rooms/$failed.log" ] || cp "$rooms/$failed.log" "$log"
     echo "$name: $failed could not be proved or built" >&2
-    grep -v ' is kept: ' "$log" | grep -m 5 -e 'error' -e '^rt: ' >&2 || tail -n 5 "$log" >&2
+    grep -m 5 -e 'error' -e '^rt: ' "$log" >&2 || tail -n 5 "$log" >&2
     echo "$name: the whole log is $log; what was proved is kept, and the next start goes on from there" >&2
+}
+
+# Proves the crates and builds the program over the statements of what lies below each, as `rt ci` does. Fails where that
+# can't be done here; where a crate was refused, that stands in a file.
+build_over_statements() {
+    python3 "$top/tools/prove.py" "$top" "$crate" "$name"
+    case $? in
+        0 | 4) ;;
+        *)
+            rm -f "$rooms"/*.log "$rooms"/*.proved
+            return 1
+            ;;
+    esac
+}
+
+# Proves the crates and builds the program over whole libraries, by `rt lib` and `rt run`.
+build_over_libraries() {
+    processors=$(nproc 2>/dev/null || echo 1)
+    places=1
+    free=$(free_memory)
+    [ "${free:-0}" -ge 16 ] && places=4
+    plan_build >"$rooms/plan"
+    crate_count=$(wc -l <"$rooms/plan")
+    begun_count=0
+    mark_kept
+    if prove_libraries; then
+        echo "$name: proving $crate, crate $crate_count of $crate_count" >&2
+        (cd "$top/crates/$crate" && rt run) >"$rooms/$crate.log" 2>&1
+    fi
 }
 
 # Proves the libraries and builds the program.
@@ -286,29 +260,13 @@ build() {
         return 1
     fi
     echo "$name: building; every crate is proved first, which may take $1 on a fresh machine" >&2
-    choose_way
-    processors=$(nproc 2>/dev/null || echo 1)
-    places=1
-    free=$(free_memory)
-    [ "${free:-0}" -ge 16 ] && places=4
     leave_rooms
     mkdir -p "$rooms"
     touch "$rooms/started"
     rm -f "$program"
-    plan_build >"$rooms/plan"
-    crate_count=$(wc -l <"$rooms/plan")
-    begun_count=0
     # (what works side by side in the background would outlive an interrupt)
     trap 'trap - INT; echo "$name: interrupted; what was proved is kept" >&2; kill 0' INT
-    mark_kept
-    if prove_libraries; then
-        echo "$name: proving $crate, crate $crate_count of $crate_count" >&2
-        if [ "$mark" = out/proved ]; then
-            prove "$crate" chain >"$rooms/$crate.log" 2>&1
-        else
-            (cd "$top/crates/$crate" && rt run) >"$rooms/$crate.log" 2>&1
-        fi
-    fi
+    build_over_statements || build_over_libraries
     trap - INT
     if [ ! -x "$program" ]; then
         tell_failure
