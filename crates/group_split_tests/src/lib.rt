@@ -3,6 +3,4 @@
 #![tactic(auto)]
 
 #[cfg(test)]
-mod inputs;
-#[cfg(test)]
 mod tests;

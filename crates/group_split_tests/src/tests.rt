@@ -1,8 +1,10 @@
 ghost use Rattle.std.specs.Prelude.{◌<◌, ◌↔◌, All, IsTrue};
 
-use crate::inputs::{setting, three_rows_a_side};
 use epoch_tags::{Counts, Pairs};
+use grid_map::Weights;
 use group_split::{GroupsRun, group_of, numbers, run_groups, sizes};
+use row_tickets::Feed;
+use run_inputs::three_rows_a_side;
 use std::alloc::{AllocError, Global};
 use std::fmt::Debug;
 use std::process::Abort;
@@ -15,6 +17,19 @@ use worker_gate::NoGate;
 // That these are equal: one call, where an assertion in its place is dear to prove.
 fn is<T: Copy + Debug + PartialEq>(rt: &impl Abort, seen: T, wanted: T, what: &str) {
     assert_eq!(rt; seen, wanted, "{what}");
+}
+
+// Two feeders and two workers; the number of joiners in it isn't used.
+fn setting() -> Setting {
+    Setting {
+        k: 0,
+        feeders: 2,
+        workers: 2,
+        batch: 1,
+        feed: Feed::Alternate,
+        fixed: None,
+        weights: Weights { r: 1, s: 1 },
+    }
 }
 
 // Numbers below 100 as one number, two digits each.
@@ -188,7 +203,7 @@ fn seen_of_three<R: Threads + Wait + Sync>(
     joiners: u32,
     numbers: &Counts,
 ) -> Result<(u64, u64, u64, u64), AllocError> {
-    let input = three_rows_a_side(alloc)?;
+    let input = three_rows_a_side(alloc, [161, 123, 186])?;
     let seen = seen_of(rt, alloc, &input, joiners, numbers);
     drop(input);
     seen

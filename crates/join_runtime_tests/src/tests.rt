@@ -1,13 +1,12 @@
 mod early;
-mod inputs;
 mod turns;
 mod waves;
 
 use epoch_tags::Actor;
 use grid_map::Weights;
-use inputs::input;
 use join_runtime::{Told, run};
 use row_tickets::Feed;
+use run_inputs::three_rows_a_side;
 use std::alloc::{AllocError, Global};
 use std::fmt::Debug;
 use std::process::Abort;
@@ -20,15 +19,6 @@ use worker_gate::{Gate, NoGate, PairGate};
 // That these are equal: one call, where an assertion in its place is dear to prove.
 fn is<T: Copy + Debug + PartialEq>(rt: &impl Abort, seen: T, wanted: T, what: &str) {
     assert_eq!(rt; seen, wanted, "{what}");
-}
-
-fn three_rows_a_side(alloc: Global, tickets: [u8; 3]) -> Result<Input, AllocError> {
-    input(
-        alloc,
-        "r.x = s.y",
-        (&[10, 20, 30], &tickets),
-        (&[20, 30, 20], &tickets),
-    )
 }
 
 // Four joiners.

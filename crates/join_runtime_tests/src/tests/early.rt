@@ -3,9 +3,10 @@
 ghost use Rattle.std.specs.Prelude.{◌<◌};
 ghost use Rattle.join_rows.specs.Shelves.{last_fault};
 
-use super::{is, setting, three_rows_a_side};
+use super::{is, setting};
 use join_rows::{ListSink, Sink};
 use join_runtime::{EarlyFault, run_early};
+use run_inputs::three_rows_a_side;
 use std::alloc::{AllocError, Global};
 use std::sync::Wait;
 use std::test::Fail;

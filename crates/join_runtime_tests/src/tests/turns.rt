@@ -1,8 +1,8 @@
 // How turns are counted, how many a bout has, and how many bouts a run.
 
-use super::inputs::input;
 use super::{is, seen, setting};
 use epoch_tags::Actor;
+use run_inputs::input;
 use std::alloc::{AllocError, Global};
 use std::process::Abort;
 use std::sync::Wait;

@@ -4,12 +4,12 @@ ghost use Rattle.std.specs.Prelude.{◌≡◌, ◌≤◌, IfOk, true};
 ghost use Rattle.trace_law.specs.Validity.{IsValidInput, IsValidSetting};
 ghost use Rattle.actor_core.specs.Rests.{IsRestOf, IsUpto};
 
-use super::inputs::input;
 use super::is;
 use epoch_tags::Pair;
 use grid_map::Weights;
 use join_runtime::{Rest, Upto, WaveRun, WaveTold, run_wave};
 use row_tickets::Feed;
+use run_inputs::input;
 use std::alloc::{AllocError, Global};
 use std::process::Abort;
 use std::sync::Wait;

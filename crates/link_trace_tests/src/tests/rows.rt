@@ -1,11 +1,11 @@
 // Small inputs through a replay.
 
-use super::inputs::input;
 use super::is;
 use super::seeds::replayed;
 use grid_map::Weights;
 use link_trace::{Input, Run, Setting};
 use row_tickets::Feed;
+use run_inputs::input;
 use std::alloc::{AllocError, Global};
 use std::process::Abort;
 use std::sync::Wait;

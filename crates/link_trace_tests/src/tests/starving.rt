@@ -1,10 +1,11 @@
 // Runs in which one actor is served last.
 
 use super::by_hand::actor;
-use super::inputs::{eight_rows_a_side, four_joiners, input};
+use super::inputs::{eight_rows_a_side, four_joiners};
 use super::is;
 use super::seeds::replayed;
 use link_trace::{Input, Run, Setting, replay_starving};
+use run_inputs::three_rows_a_side;
 use std::alloc::{AllocError, Global};
 use std::process::Abort;
 use std::sync::Wait;
@@ -50,17 +51,6 @@ fn each_actor_is_served_last(rt: HostRuntime) -> Result<(), Fail> {
     let found = finds_all_of(&rt, rt.alloc(), &input);
     drop(input);
     Ok(found?)
-}
-
-// Three rows a side, of which equal ones match, all with one ticket.
-fn three_rows_a_side(alloc: Global) -> Result<Input, AllocError> {
-    let tickets = [100; 3];
-    input(
-        alloc,
-        "r.x = s.y",
-        (&[10, 20, 30], &tickets),
-        (&[20, 30, 20], &tickets),
-    )
 }
 
 fn one_joiner() -> Setting {
@@ -118,7 +108,7 @@ fn starving_has_17_events(rt: &impl Abort, alloc: Global, input: &Input) -> Resu
 
 #[test]
 fn one_joiner_has_17_events_in_each_replay(rt: HostRuntime) -> Result<(), Fail> {
-    let input = three_rows_a_side(rt.alloc())?;
+    let input = three_rows_a_side(rt.alloc(), [100; 3])?;
     let held = replays_have_17_events(&rt, rt.alloc(), &input);
     drop(input);
     Ok(held?)
@@ -126,7 +116,7 @@ fn one_joiner_has_17_events_in_each_replay(rt: HostRuntime) -> Result<(), Fail> 
 
 #[test]
 fn one_joiner_has_17_events_whoever_is_served_last(rt: HostRuntime) -> Result<(), Fail> {
-    let input = three_rows_a_side(rt.alloc())?;
+    let input = three_rows_a_side(rt.alloc(), [100; 3])?;
     let held = starving_has_17_events(&rt, rt.alloc(), &input);
     drop(input);
     Ok(held?)

@@ -1,9 +1,9 @@
 // Runs over rings.
 
-use super::{Ticketed, header, is, over, row, setting, three_rows_a_side};
+use super::{is, setting};
 use epoch_tags::Actor;
 use ring_runtime::{RingRun, ring_run};
-use row_cells::{Bytes, Rows, Table};
+use run_inputs::{input, three_rows_a_side};
 use std::alloc::{AllocError, Global};
 use std::process::Abort;
 use std::test::Fail;
@@ -70,7 +70,7 @@ fn seen_of_three<R: Threads + Sync, G: Gate + Sync>(
     setting: &Setting,
     gate: &G,
 ) -> Result<Found, AllocError> {
-    let input = three_rows_a_side(alloc)?;
+    let input = three_rows_a_side(alloc, [161, 123, 186])?;
     let found = seen(rt, alloc, &input, setting, gate);
     drop(input);
     found
@@ -126,70 +126,22 @@ fn two_workers_meet(rt: HostRuntime) -> Result<(), Fail> {
     Ok(())
 }
 
-// The numbers 0 to 6, again and again.
-fn add_many_rows(alloc: Global, rows: &mut Rows, count: u32) -> Result<(), AllocError> {
-    for number in 0..count {
-        rows.push(row(alloc, u64::from(number % 7))?)?;
+// Twenty rows a side of each number from 0 to 6.
+fn many_rows_a_side(alloc: Global) -> Result<Input, AllocError> {
+    let mut numbers = [0; 140];
+    let mut tickets_r = [0; 140];
+    let mut tickets_s = [0; 140];
+    for place in 0..140u8 {
+        numbers[place as usize] = place % 7;
+        tickets_r[place as usize] = place.wrapping_mul(37);
+        tickets_s[place as usize] = place.wrapping_mul(101);
     }
-    Ok(())
-}
-
-fn many_rows(alloc: Global, count: u32) -> Result<Rows, AllocError> {
-    let mut rows = Rows::new(alloc);
-    match add_many_rows(alloc, &mut rows, count) {
-        Ok(()) => Ok(rows),
-        Err(refused) => {
-            drop(rows);
-            Err(refused)
-        }
-    }
-}
-
-// A table with one column, in which the numbers 0 to 6 come again and again.
-fn long_table(alloc: Global, name: &[u8], count: u32) -> Result<Table, AllocError> {
-    let names = header(alloc, name)?;
-    match many_rows(alloc, count) {
-        Ok(rows) => Ok(Table { names, rows }),
-        Err(refused) => {
-            drop(names);
-            Err(refused)
-        }
-    }
-}
-
-fn tickets(alloc: Global, count: u32, step: u32) -> Result<Bytes, AllocError> {
-    let mut tickets = Bytes::new(alloc);
-    for number in 0..count {
-        tickets.push((number.wrapping_mul(step) % 256) as u8)?;
-    }
-    Ok(tickets)
-}
-
-fn long_with_tickets(
-    alloc: Global,
-    name: &[u8],
-    count: u32,
-    step: u32,
-) -> Result<Ticketed, AllocError> {
-    let tickets = tickets(alloc, count, step)?;
-    match long_table(alloc, name, count) {
-        Ok(table) => Ok(Ticketed { table, tickets }),
-        Err(refused) => {
-            drop(tickets);
-            Err(refused)
-        }
-    }
-}
-
-fn many_rows_a_side(alloc: Global, count: u32) -> Result<Input, AllocError> {
-    let of_r = long_with_tickets(alloc, b"x", count, 37)?;
-    match long_with_tickets(alloc, b"y", count, 101) {
-        Ok(of_s) => over(alloc, of_r, of_s),
-        Err(refused) => {
-            drop(of_r);
-            Err(refused)
-        }
-    }
+    input(
+        alloc,
+        "r.x = s.y",
+        (&numbers, &tickets_r),
+        (&numbers, &tickets_s),
+    )
 }
 
 fn pairs_of<R: Threads + Sync>(
@@ -204,14 +156,13 @@ fn pairs_of<R: Threads + Sync>(
     Ok(pairs)
 }
 
-// How many pairs a run of so many rows a side has.
+// How many pairs a run of those rows has.
 fn pairs_of_many<R: Threads + Sync>(
     rt: &R,
     alloc: Global,
-    count: u32,
     setting: &Setting,
 ) -> Result<u64, AllocError> {
-    let input = many_rows_a_side(alloc, count)?;
+    let input = many_rows_a_side(alloc)?;
     let pairs = pairs_of(rt, alloc, &input, setting);
     drop(input);
     pairs
@@ -221,7 +172,7 @@ fn pairs_of_many<R: Threads + Sync>(
 fn sixty_four_joiners_eight_feeders_and_sixteen_workers_find_all(
     rt: HostRuntime,
 ) -> Result<(), Fail> {
-    let pairs = pairs_of_many(&rt, rt.alloc(), 140, &setting(6, 8, 16))?;
+    let pairs = pairs_of_many(&rt, rt.alloc(), &setting(6, 8, 16))?;
     assert_eq!(rt; pairs, 2800, "twenty rows a side of each number");
     Ok(())
 }

@@ -1,18 +1,17 @@
-// The inputs of the tests, and their setting.
+//! Inputs of one column a side, for the tests of runs. No contract says what they hold; each test sees it by its run.
+#![tactic(auto)]
 
-use grid_map::Weights;
 use row_cells::{Bytes, Cell, Cells, Names, Rows, Table};
-use row_tickets::Feed;
 use std::alloc::{AllocError, Global};
 use theta_pred::{Theta, resolve};
 use theta_text::parse;
-use trace_law::{Input, Setting};
+use trace_law::Input;
 
 // What each function here makes, it lets go by a call where it can't go on: what a way out drops by itself is dear to
 // prove.
 
-fn row(alloc: Global, number: u64) -> Result<Cells, AllocError> {
-    let cell = Cell::decimal(alloc, number)?;
+fn row(alloc: Global, number: u8) -> Result<Cells, AllocError> {
+    let cell = Cell::decimal(alloc, u64::from(number))?;
     let mut row = Cells::new(alloc);
     match row.push(cell) {
         Ok(()) => Ok(row),
@@ -23,14 +22,14 @@ fn row(alloc: Global, number: u64) -> Result<Cells, AllocError> {
     }
 }
 
-fn add_rows(alloc: Global, rows: &mut Rows, numbers: &[u64]) -> Result<(), AllocError> {
+fn add_rows(alloc: Global, rows: &mut Rows, numbers: &[u8]) -> Result<(), AllocError> {
     for number in numbers {
         rows.push(row(alloc, *number)?)?;
     }
     Ok(())
 }
 
-fn rows(alloc: Global, numbers: &[u64]) -> Result<Rows, AllocError> {
+fn rows(alloc: Global, numbers: &[u8]) -> Result<Rows, AllocError> {
     let mut rows = Rows::new(alloc);
     match add_rows(alloc, &mut rows, numbers) {
         Ok(()) => Ok(rows),
@@ -55,7 +54,7 @@ fn header(alloc: Global, name: &[u8]) -> Result<Names, AllocError> {
 }
 
 // A table with one column.
-fn table(alloc: Global, name: &[u8], numbers: &[u64]) -> Result<Table, AllocError> {
+fn table(alloc: Global, name: &[u8], numbers: &[u8]) -> Result<Table, AllocError> {
     let names = header(alloc, name)?;
     match rows(alloc, numbers) {
         Ok(rows) => Ok(Table { names, rows }),
@@ -66,8 +65,8 @@ fn table(alloc: Global, name: &[u8], numbers: &[u64]) -> Result<Table, AllocErro
     }
 }
 
-fn equality(alloc: Global, r: &Table, s: &Table) -> Result<Theta, AllocError> {
-    let Ok(pred) = parse(alloc, "r.x = s.y") else {
+fn predicate(alloc: Global, text: &str, r: &Table, s: &Table) -> Result<Theta, AllocError> {
+    let Ok(pred) = parse(alloc, text) else {
         return Err(AllocError);
     };
     let theta = match resolve(alloc, &pred, &r.names, &s.names) {
@@ -91,7 +90,7 @@ struct Ticketed {
 fn with_tickets(
     alloc: Global,
     name: &[u8],
-    numbers: &[u64],
+    numbers: &[u8],
     tickets: &[u8],
 ) -> Result<Ticketed, AllocError> {
     let tickets = Bytes::from_slice(alloc, tickets)?;
@@ -104,8 +103,8 @@ fn with_tickets(
     }
 }
 
-fn over(alloc: Global, r: Ticketed, s: Ticketed) -> Result<Input, AllocError> {
-    match equality(alloc, &r.table, &s.table) {
+fn over(alloc: Global, text: &str, r: Ticketed, s: Ticketed) -> Result<Input, AllocError> {
+    match predicate(alloc, text, &r.table, &s.table) {
         Ok(theta) => Ok(Input {
             table_r: r.table,
             table_s: s.table,
@@ -121,11 +120,17 @@ fn over(alloc: Global, r: Ticketed, s: Ticketed) -> Result<Input, AllocError> {
     }
 }
 
-pub(crate) fn three_rows_a_side(alloc: Global) -> Result<Input, AllocError> {
-    let tickets = [161, 123, 186];
-    let of_r = with_tickets(alloc, b"x", &[10, 20, 30], &tickets)?;
-    match with_tickets(alloc, b"y", &[20, 30, 20], &tickets) {
-        Ok(of_s) => over(alloc, of_r, of_s),
+/// R has a column `x`, and S a column `y`, with these numbers and tickets. A text that is no predicate over them is
+/// answered like want of memory.
+pub fn input(
+    alloc: Global,
+    text: &str,
+    r: (&[u8], &[u8]),
+    s: (&[u8], &[u8]),
+) -> Result<Input, AllocError> {
+    let of_r = with_tickets(alloc, b"x", r.0, r.1)?;
+    match with_tickets(alloc, b"y", s.0, s.1) {
+        Ok(of_s) => over(alloc, text, of_r, of_s),
         Err(refused) => {
             drop(of_r);
             Err(refused)
@@ -133,15 +138,12 @@ pub(crate) fn three_rows_a_side(alloc: Global) -> Result<Input, AllocError> {
     }
 }
 
-// Two feeders and two workers; the number of joiners in it isn't used.
-pub(crate) fn setting() -> Setting {
-    Setting {
-        k: 0,
-        feeders: 2,
-        workers: 2,
-        batch: 1,
-        feed: Feed::Alternate,
-        fixed: None,
-        weights: Weights { r: 1, s: 1 },
-    }
+/// Three rows a side, of which equal ones match: two rows of S with one of R, one with another.
+pub fn three_rows_a_side(alloc: Global, tickets: [u8; 3]) -> Result<Input, AllocError> {
+    input(
+        alloc,
+        "r.x = s.y",
+        (&[10, 20, 30], &tickets),
+        (&[20, 30, 20], &tickets),
+    )
 }
