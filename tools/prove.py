@@ -67,8 +67,10 @@ class Build:
         self.processors = rt.processors()
         self.begun, self.proved, self.failed, self.broken = [], [], [], None
         self.turn = threading.Condition()
-        # what rt ci has kept is only read
+        # what rt ci has kept is only read, and stays where it is damaged
         self.of_rt = rt.Kept(crates) if os.path.isdir(rt.STORE) else None
+        if self.of_rt:
+            self.of_rt.drop = lambda path: None
         # (all that stands below jm takes 2.8 GB)
         rt.STORE, rt.STORE_MOST = f"{os.path.dirname(rooms)}/kept", 4_000_000_000
         self.kept = rt.Kept(crates)
