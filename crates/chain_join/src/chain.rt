@@ -9,6 +9,7 @@ ghost use Rattle.chain_join.specs.Triples.{triple_at};
 
 use crate::second::{Third, second_input};
 use crate::triples::{Triples, triples_of};
+use epoch_tags::Pair;
 use join_runtime::{Told, run};
 use std::alloc::{AllocError, Global};
 use std::sync::Wait;
@@ -62,31 +63,30 @@ fn whole_run<R: Threads + Wait + Sync, G: Gate + Sync>(
     run(rt, alloc, input, setting, gate)
 }
 
-// The second run, over this input, behind the first.
+// The triples of a second run over this input, behind one with these pairs, and what is told of it.
 fn run_second<R: Threads + Wait + Sync, G: Gate + Sync>(
     rt: &R,
     alloc: Global,
-    first: Told,
-    second: Input,
+    pairs: &[Pair],
+    second: &Input,
     setting: &Setting,
     gate: &G,
-) -> Result<ChainRun, AllocError>
-    requires second { IsValidInput second }
+) -> Result<(Triples, Told), AllocError>
+    requires second { IsValidInput second.now }
     requires setting { IsValidSetting setting.now }
-    requires places { All (λ pair. pair.i < length first.run.pairs) (nested_loop second) }
-    ensures triples { IfOk result (λ run. run.triples
-        ≡ map (triple_at first.run.pairs) (nested_loop second)) }
-    ensures first { IfOk result (λ run. run.first ≡ first) }
-    ensures second { IfOk result (λ run. IsToldOf second setting.now run.second) }
+    requires places { All (λ pair. pair.i < length pairs.now) (nested_loop second.now) }
+    ensures triples { IfOk result (λ run. run.0
+        ≡ map (triple_at pairs.now) (nested_loop second.now)) }
+    ensures second { IfOk result (λ run. IsToldOf second.now setting.now run.1) }
 {
-    let told = whole_run(rt, alloc, &second, setting, gate)?;
-    gate.let_go(second);
-    let triples = triples_of(alloc, first.run.pairs.as_slice(), told.run.pairs.as_slice())?;
-    Ok(ChainRun {
-        triples,
-        first,
-        second: told,
-    })
+    let told = whole_run(rt, alloc, second, setting, gate)?;
+    match triples_of(alloc, pairs, told.run.pairs.as_slice()) {
+        Ok(triples) => Ok((triples, told)),
+        Err(refused) => {
+            gate.let_go(told);
+            Err(refused)
+        }
+    }
 }
 
 /// Joins R with S by a run, and then the joined rows, one for each pair of the first run and in their
@@ -123,5 +123,17 @@ pub fn run_chain<R: Threads + Wait + Sync, G: Gate + Sync>(
         return Err(ChainFault::Between { pairs });
     }
     let second = second_input(alloc, first, told.run.pairs.as_slice(), third, seed)?;
-    Ok(run_second(rt, alloc, told, second, setting, gate)?)
+    let ran = run_second(rt, alloc, told.run.pairs.as_slice(), &second, setting, gate);
+    gate.let_go(second);
+    match ran {
+        Ok((triples, second)) => Ok(ChainRun {
+            triples,
+            first: told,
+            second,
+        }),
+        Err(_) => {
+            gate.let_go(told);
+            Err(ChainFault::Memory)
+        }
+    }
 }
