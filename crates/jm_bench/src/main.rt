@@ -19,7 +19,9 @@ use epoch_tags::{Actor, Envelope, Msg, Pairs, ToController, Tuple};
 use row_cells::{Bytes, Cell, Cells, Items, Names, Side};
 use ruled_links::{Actors, Inbox, Mouth, inbox};
 use std::alloc::{AllocError, Global};
+use std::marker::Sync;
 use std::sync::Wait;
+use std::thread::Threads;
 use std::{env, io};
 use store_parts::{Store, Which};
 use theta_pred::{Theta, resolve};
@@ -238,6 +240,34 @@ fn exchange<R: Wait>(rt: &R, alloc: Global, count: u32, rounds: u32) -> Result<u
 // How many rounds.
 const ROUNDS: u32 = 20_000;
 
+// The number that a word's work comes to, if there is such a word.
+fn number_at<R: Threads + Wait + Sync>(
+    rt: &R,
+    alloc: Global,
+    word: &str,
+) -> Result<Option<u64>, AllocError> {
+    let number = match word {
+        "holds" => u64::from(holds(alloc)?),
+        "add" => adds(alloc)?,
+        "store" => probes(alloc, BAND, COUNT)?,
+        "beyond" => probes(alloc, BEYOND, 4)?,
+        "texts" => probes(alloc, TEXTS, COUNT)?,
+        "texts_beyond" => probes(alloc, TEXTS_BEYOND, COUNT)?,
+        "inbox1" => exchange(rt, alloc, 1, 7_200_000)?,
+        "inbox8" => exchange(rt, alloc, 8, 900_000)?,
+        "inbox72" => exchange(rt, alloc, 72, 100_000)?,
+        "replay4" => replays::events(rt, alloc, 65_536, 2, 2)?,
+        "replay64" => replays::events(rt, alloc, 20_000, 6, 8)?,
+        "rounds1" => rounds::added(rt, alloc, 1, ROUNDS)?,
+        "rounds2" => rounds::added(rt, alloc, 2, ROUNDS)?,
+        "rounds4" => rounds::added(rt, alloc, 4, ROUNDS)?,
+        "rounds8" => rounds::added(rt, alloc, 8, ROUNDS)?,
+        "rounds16" => rounds::added(rt, alloc, 16, ROUNDS)?,
+        _ => return Ok(None),
+    };
+    Ok(Some(number))
+}
+
 fn main(rt: HostRuntime) -> io::Result<()> {
     let alloc = rt.alloc();
     let Some(word) = env::args(&rt)?.nth(1) else {
@@ -246,24 +276,9 @@ fn main(rt: HostRuntime) -> io::Result<()> {
         )?;
         return Ok(());
     };
-    match word.as_str() {
-        "holds" => println!(rt; "{}", holds(alloc)?)?,
-        "add" => println!(rt; "{}", adds(alloc)?)?,
-        "store" => println!(rt; "{}", probes(alloc, BAND, COUNT)?)?,
-        "beyond" => println!(rt; "{}", probes(alloc, BEYOND, 4)?)?,
-        "texts" => println!(rt; "{}", probes(alloc, TEXTS, COUNT)?)?,
-        "texts_beyond" => println!(rt; "{}", probes(alloc, TEXTS_BEYOND, COUNT)?)?,
-        "inbox1" => println!(rt; "{}", exchange(&rt, alloc, 1, 7_200_000)?)?,
-        "inbox8" => println!(rt; "{}", exchange(&rt, alloc, 8, 900_000)?)?,
-        "inbox72" => println!(rt; "{}", exchange(&rt, alloc, 72, 100_000)?)?,
-        "replay4" => println!(rt; "{}", replays::events(&rt, alloc, 65_536, 2, 2)?)?,
-        "replay64" => println!(rt; "{}", replays::events(&rt, alloc, 20_000, 6, 8)?)?,
-        "rounds1" => println!(rt; "{}", rounds::added(&rt, alloc, 1, ROUNDS)?)?,
-        "rounds2" => println!(rt; "{}", rounds::added(&rt, alloc, 2, ROUNDS)?)?,
-        "rounds4" => println!(rt; "{}", rounds::added(&rt, alloc, 4, ROUNDS)?)?,
-        "rounds8" => println!(rt; "{}", rounds::added(&rt, alloc, 8, ROUNDS)?)?,
-        "rounds16" => println!(rt; "{}", rounds::added(&rt, alloc, 16, ROUNDS)?)?,
-        _ => println!(rt; "no such word")?,
+    match number_at(&rt, alloc, word.as_str())? {
+        Some(number) => println!(rt; "{number}")?,
+        None => println!(rt; "no such word")?,
     }
     Ok(())
 }
