@@ -70,20 +70,21 @@ grown_are work wave ends first line since split are grown =
       trail_is = more.trail;
     }
 
--- waves that went on from the grown rest, by the setting as the code has it
-pub waves_since_growth : (work grown : WorkView) (trail : List EndsView) (rest : Left) (last : TurnLine)
-    (ends : List WaveEnd) (since : Waved) → rest.line ≡ grown_line work.setting.weights work.setting.k last
-    → IsRestOf work.input (grown_setting work.setting) rest → grown ≡ grown_work work
-    → AreWavesBehind grown (record { run = no_waves grown.setting; trail = trail; rest = rest }) ends since
-    → AreWavesGrown work trail last ends rest.line since
-waves_since_growth work grown trail rest last ends since line stands is waves = record {
-  line_is = line;
-  rest = rest;
-  from = refl;
-  stands = stands;
-  waves = subst (λ w.
-      AreWavesBehind w (record { run = no_waves w.setting; trail = trail; rest = rest }) ends since) is waves;
-}
+module _ (work grown : WorkView) where
+  -- waves that went on from the grown rest, by the setting as the code has it
+  pub waves_since_growth : (trail : List EndsView) (rest : Left) (last : TurnLine)
+      (ends : List WaveEnd) (since : Waved) → rest.line ≡ grown_line work.setting.weights work.setting.k last
+      → IsRestOf work.input (grown_setting work.setting) rest → grown ≡ grown_work work
+      → AreWavesBehind grown (record { run = no_waves grown.setting; trail = trail; rest = rest }) ends since
+      → AreWavesGrown work trail last ends rest.line since
+  waves_since_growth trail rest last ends since line stands is waves = record {
+    line_is = line;
+    rest = rest;
+    from = refl;
+    stands = stands;
+    waves = subst (λ w.
+        AreWavesBehind w (record { run = no_waves w.setting; trail = trail; rest = rest }) ends since) is waves;
+  }
 
 -- and waves may go on from there
 pub may_go_on : (work grown : Work) (rest next : Left) (ends : List WaveEnd)

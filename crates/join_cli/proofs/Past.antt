@@ -277,12 +277,13 @@ module _ (told : Told) (spot : Spot) (asked : Asked) (trees : Trees) (old new : 
             (all.1 ∙ ap (λ r. Err r) same) ends;
       }
 
--- what was read up to a place past the greatest length is no table, so the refusal is the one that tells its file
-pub past_is_too_long : (told : Told) (spot : Spot) (asked : Asked) (trees : Trees) (old new : Option (List ℕ))
-    (outcome : Outcome)
-    (name : List ℕ) (place : ℕ) → asked.make ≡ None → EndsOver told spot asked trees old new outcome
-    → spot ≡ Some (name, place) → 2 ^ 24 < place → IsTooLong asked name outcome
-past_is_too_long told spot asked trees old new outcome name place none over is past =
-    two_files told spot asked trees old new outcome name place over.found over.ends is past over.seen.tables
-    over.seen.middle (subst (λ make. TablesAsked told over.seen.middle asked make over.seen.tables) none
-    over.seen.first) over.seen.behind
+module _ (told : Told) (spot : Spot) (asked : Asked) (trees : Trees) where
+  -- what was read up to a place past the greatest length is no table, so the refusal is the one that tells its file
+  pub past_is_too_long : (old new : Option (List ℕ))
+      (outcome : Outcome)
+      (name : List ℕ) (place : ℕ) → asked.make ≡ None → EndsOver told spot asked trees old new outcome
+      → spot ≡ Some (name, place) → 2 ^ 24 < place → IsTooLong asked name outcome
+  past_is_too_long old new outcome name place none over is past =
+      two_files told spot asked trees old new outcome name place over.found over.ends is past over.seen.tables
+      over.seen.middle (subst (λ make. TablesAsked told over.seen.middle asked make over.seen.tables) none
+      over.seen.first) over.seen.behind

@@ -32,73 +32,75 @@ use Rattle.join_cli.proofs.WaveJournals.{lawful_begins}
 abbrev pub CountsAll : Input → TurnLine → Type 0
 CountsAll input line = (line.rows_r ≡ row_count input R) × (line.rows_s ≡ row_count input S)
 
-by_past : (input : Input) (setting : Setting) (line : TurnLine) (journal backwards : List TurnLine)
-    → reverse journal ≡ backwards → 0 < setting.feeders → 0 < setting.batch
-    → line.rows_r ≤ row_count input R → line.rows_s ≤ row_count input S
-    → IsLawfulFrom input setting line journal → CountsAll input (last_line line journal)
-by_past input setting line journal [] is some batch within_r within_s lawful =
-    absurd (subst (λ ls. Follows (rules_of setting) (begun line) ls) is lawful.so_far.follows)
-by_past input setting line journal (last ∷ past) is some batch within_r within_s lawful =
-    rw last_is (omega (arith, of_r, same_r, all_r), omega (arith, of_s, same_s, all_s))
-  where
-    rest : Rest
-    rest = record { line = line; stores = λ j. [] }
+module _ (input : Input) (setting : Setting) (line : TurnLine) where
+  -- the last line of a lawful journal has counted all rows, by its lines backwards
+  by_past : (journal backwards : List TurnLine)
+      → reverse journal ≡ backwards → 0 < setting.feeders → 0 < setting.batch
+      → line.rows_r ≤ row_count input R → line.rows_s ≤ row_count input S
+      → IsLawfulFrom input setting line journal → CountsAll input (last_line line journal)
+  by_past journal [] is some batch within_r within_s lawful =
+      absurd (subst (λ ls. Follows (rules_of setting) (begun line) ls) is lawful.so_far.follows)
+  by_past journal (last ∷ past) is some batch within_r within_s lawful =
+      rw last_is (omega (arith, of_r, same_r, all_r), omega (arith, of_s, same_s, all_s))
+    where
+      rest : Rest
+      rest = record { line = line; stores = λ j. [] }
 
-    follows : Follows (rules_of setting) (begun line) (last ∷ past)
-    follows = subst (λ ls. Follows (rules_of setting) (begun line) ls) is lawful.so_far.follows
+      follows : Follows (rules_of setting) (begun line) (last ∷ past)
+      follows = subst (λ ls. Follows (rules_of setting) (begun line) ls) is lawful.so_far.follows
 
-    journal_is : journal ≡ reverse (last ∷ past)
-    journal_is = sym (reverse-reverse journal) ∙ ap reverse is
+      journal_is : journal ≡ reverse (last ∷ past)
+      journal_is = sym (reverse-reverse journal) ∙ ap reverse is
 
-    last_is : last_line line journal ≡ last
-    last_is =
-        ap (last_line line) (journal_is ∙ reverse-append (last ∷ []) past) ∙ last_line_is line (reverse past) last
+      last_is : last_line line journal ≡ last
+      last_is =
+          ap (last_line line) (journal_is ∙ reverse-append (last ∷ []) past) ∙ last_line_is line (reverse past) last
 
-    each_r : (q : ℕ) → q < setting.feeders
-        → lines_r q (last ∷ past) ≡ sum_by (λ b. (size_of b).0) (batches input setting line q)
-    each_r q low =
-        lines_r_are q (last ∷ past)
-        ∙ ap (sum_by counted_r)
-        (sym (forwards (rules_of setting) (begun line) last past q follows (no_request q line.cause)))
-        ∙ ap (λ ls. sum_by counted_r (causes_of q ls)) (sym journal_is)
-        ∙ ap (sum_by counted_r) (lawful.counted q low)
-        ∙ all_r_are q (map size_of (batches input setting line q))
-        ∙ sum_of_map (λ size. size.0) size_of (batches input setting line q)
+      each_r : (q : ℕ) → q < setting.feeders
+          → lines_r q (last ∷ past) ≡ sum_by (λ b. (size_of b).0) (batches input setting line q)
+      each_r q low =
+          lines_r_are q (last ∷ past)
+          ∙ ap (sum_by counted_r)
+          (sym (forwards (rules_of setting) (begun line) last past q follows (no_request q line.cause)))
+          ∙ ap (λ ls. sum_by counted_r (causes_of q ls)) (sym journal_is)
+          ∙ ap (sum_by counted_r) (lawful.counted q low)
+          ∙ all_r_are q (map size_of (batches input setting line q))
+          ∙ sum_of_map (λ size. size.0) size_of (batches input setting line q)
 
-    each_s : (q : ℕ) → q < setting.feeders
-        → lines_s q (last ∷ past) ≡ sum_by (λ b. (size_of b).1) (batches input setting line q)
-    each_s q low =
-        lines_s_are q (last ∷ past)
-        ∙ ap (sum_by counted_s)
-        (sym (forwards (rules_of setting) (begun line) last past q follows (no_request q line.cause)))
-        ∙ ap (λ ls. sum_by counted_s (causes_of q ls)) (sym journal_is)
-        ∙ ap (sum_by counted_s) (lawful.counted q low)
-        ∙ all_s_are q (map size_of (batches input setting line q))
-        ∙ sum_of_map (λ size. size.1) size_of (batches input setting line q)
+      each_s : (q : ℕ) → q < setting.feeders
+          → lines_s q (last ∷ past) ≡ sum_by (λ b. (size_of b).1) (batches input setting line q)
+      each_s q low =
+          lines_s_are q (last ∷ past)
+          ∙ ap (sum_by counted_s)
+          (sym (forwards (rules_of setting) (begun line) last past q follows (no_request q line.cause)))
+          ∙ ap (λ ls. sum_by counted_s (causes_of q ls)) (sym journal_is)
+          ∙ ap (sum_by counted_s) (lawful.counted q low)
+          ∙ all_s_are q (map size_of (batches input setting line q))
+          ∙ sum_of_map (λ size. size.1) size_of (batches input setting line q)
 
-    of_r : last.rows_r ≡ line.rows_r + total setting.feeders (λ q. lines_r q (last ∷ past))
-    of_r = rows_r_counted (rules_of setting) (begun line) last past follows
+      of_r : last.rows_r ≡ line.rows_r + total setting.feeders (λ q. lines_r q (last ∷ past))
+      of_r = rows_r_counted (rules_of setting) (begun line) last past follows
 
-    of_s : last.rows_s ≡ line.rows_s + total setting.feeders (λ q. lines_s q (last ∷ past))
-    of_s = rows_s_counted (rules_of setting) (begun line) last past follows
+      of_s : last.rows_s ≡ line.rows_s + total setting.feeders (λ q. lines_s q (last ∷ past))
+      of_s = rows_s_counted (rules_of setting) (begun line) last past follows
 
-    same_r : total setting.feeders (λ q. lines_r q (last ∷ past))
-        ≡ total setting.feeders (λ q. sum_by (λ b. (size_of b).0) (batches input setting line q))
-    same_r = total_same setting.feeders (λ q. lines_r q (last ∷ past))
-        (λ q. sum_by (λ b. (size_of b).0) (batches input setting line q)) each_r
+      same_r : total setting.feeders (λ q. lines_r q (last ∷ past))
+          ≡ total setting.feeders (λ q. sum_by (λ b. (size_of b).0) (batches input setting line q))
+      same_r = total_same setting.feeders (λ q. lines_r q (last ∷ past))
+          (λ q. sum_by (λ b. (size_of b).0) (batches input setting line q)) each_r
 
-    same_s : total setting.feeders (λ q. lines_s q (last ∷ past))
-        ≡ total setting.feeders (λ q. sum_by (λ b. (size_of b).1) (batches input setting line q))
-    same_s = total_same setting.feeders (λ q. lines_s q (last ∷ past))
-        (λ q. sum_by (λ b. (size_of b).1) (batches input setting line q)) each_s
+      same_s : total setting.feeders (λ q. lines_s q (last ∷ past))
+          ≡ total setting.feeders (λ q. sum_by (λ b. (size_of b).1) (batches input setting line q))
+      same_s = total_same setting.feeders (λ q. lines_s q (last ∷ past))
+          (λ q. sum_by (λ b. (size_of b).1) (batches input setting line q)) each_s
 
-    all_r : total setting.feeders (λ q. sum_by (λ b. (size_of b).0) (batches input setting line q)) + line.rows_r
-        ≡ row_count input R
-    all_r = in_all_r input setting some batch rest within_r within_s
+      all_r : total setting.feeders (λ q. sum_by (λ b. (size_of b).0) (batches input setting line q)) + line.rows_r
+          ≡ row_count input R
+      all_r = in_all_r input setting some batch rest within_r within_s
 
-    all_s : total setting.feeders (λ q. sum_by (λ b. (size_of b).1) (batches input setting line q)) + line.rows_s
-        ≡ row_count input S
-    all_s = in_all_s input setting some batch rest within_r within_s
+      all_s : total setting.feeders (λ q. sum_by (λ b. (size_of b).1) (batches input setting line q)) + line.rows_s
+          ≡ row_count input S
+      all_s = in_all_s input setting some batch rest within_r within_s
 
 -- the last line of a lawful journal has counted all rows
 pub counts_all : (input : Input) (setting : Setting) (line : TurnLine) (journal : List TurnLine) → IsValid input setting

@@ -120,7 +120,7 @@ module _ (seats : List SeatView) (leads : AllLead (map frame_of seats))
 
   apart_at : (d : SeatView) (k n r : ℕ) → k < n → n < length seats → r < length seats
       → AreApart (slot_of seats d k r) (slot_of seats d n r)
-  apart_at d k n r before low low' a b is is' same =
+  apart_at d k n r before low low' = λ a b is is' same.
       let one = from_there d k r a (omega arith) low' is in
       let other = from_there d n r b low low' is' in
       actors_apart d k n before low (sym one ∙ (name_once a.from b.from same ∙ other))
@@ -129,7 +129,7 @@ module _ (seats : List SeatView) (leads : AllLead (map frame_of seats))
   pub gathered_more : (n : ℕ) (new : List SeatView) → n < length seats → length new ≡ length seats
       → ((r : ℕ) (d : SeatView) → r < length seats → Tells (slot_of seats d n r) (get_or seats r d) (get_or new r d))
       → AreGatheredBelow n seats → AreGatheredBelow (n + 1) new
-  gathered_more n new low long told below k r d here there =
+  gathered_more n new low long told below = λ k r d here there.
       let low' : r < length seats = omega (arith, long) in
       let before : k < length seats = omega arith in
       let same = tells_mouths (slot_of seats d n k) (get_or seats k d) (get_or new k d) (told k d before) in

@@ -79,24 +79,25 @@ module _ (cast : Cast) (receiver : ℕ) (mouth : Sending) (old new : List SeatVi
   slot_elsewhere : (n r : ℕ) (d : SeatView) → n ≢ puts.sender → slot_of new d n r ≡ slot_of old d n r
   slot_elsewhere n r d other = ap (λ (s : SeatView). get_or s.mouths r None) (elsewhere n d other)
 
--- where a mouth comes to a place of its sender's seat, it has come to its sender
-pub puts_there : (cast : Cast) (receiver : ℕ) (mouth : Sending) (sender : ℕ) (seat : SeatView)
-    (old new : List SeatView) → number cast mouth.from ≡ Some sender
-    → HasSeat cast (length old) mouth.from → HavePlaces receiver old → seat ≡ get_or old sender seat
-    → new ≡ set old sender (record seat { mouths = set seat.mouths receiver (Some mouth) })
-    → Puts cast receiver mouth old new
-puts_there cast receiver mouth sender seat old new is has places here now =
-    let same : has.place ≡ sender = some_is has.place sender (sym has.is ∙ is) in
-    let low : sender < length old = omega (arith, same, has.there) in
-    record {
-      sender = sender;
-      is = is;
-      there = low;
-      room = λ d. places sender d low;
-      now = λ d.
-          let own : seat ≡ get_or old sender d = here ∙ get_or_default old sender seat d low in
-          now ∙ ap (λ (s : SeatView). set old sender (record s { mouths = set s.mouths receiver (Some mouth) })) own;
-    }
+module _ (cast : Cast) (receiver : ℕ) (mouth : Sending) where
+  -- where a mouth comes to a place of its sender's seat, it has come to its sender
+  pub puts_there : (sender : ℕ) (seat : SeatView)
+      (old new : List SeatView) → number cast mouth.from ≡ Some sender
+      → HasSeat cast (length old) mouth.from → HavePlaces receiver old → seat ≡ get_or old sender seat
+      → new ≡ set old sender (record seat { mouths = set seat.mouths receiver (Some mouth) })
+      → Puts cast receiver mouth old new
+  puts_there sender seat old new is has places here now =
+      let same : has.place ≡ sender = some_is has.place sender (sym has.is ∙ is) in
+      let low : sender < length old = omega (arith, same, has.there) in
+      record {
+        sender = sender;
+        is = is;
+        there = low;
+        room = λ d. places sender d low;
+        now = λ d.
+            let own : seat ≡ get_or old sender d = here ∙ get_or_default old sender seat d low in
+            now ∙ ap (λ (s : SeatView). set old sender (record s { mouths = set s.mouths receiver (Some mouth) })) own;
+      }
 
 -- ---- several
 

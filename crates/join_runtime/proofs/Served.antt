@@ -53,13 +53,14 @@ module _ (cast : Cast) (old new : List (Option Sending))
     go = λ ps out. have_still ps (served.go ps out);
   }
 
--- what a machine that is served posts has mouths
-pub posts_served : (cast : Cast) (mouths : List (Option Sending)) (cause : Cause) (core core' : Core)
-    (posts none sends : List Post) → none ≡ [] → sends ≡ none ++ posts → Event cause core core' posts
-    → IsServed cast mouths core → HaveMouths cast mouths sends
-posts_served cast mouths cause core core' posts none sends empty are event served =
-    subst (HaveMouths cast mouths) (sym (are ∙ ap (λ ps. ps ++ posts) empty))
-    (served.go posts (event.over served.start served.lists served.stands))
+module _ (cast : Cast) (mouths : List (Option Sending)) where
+  -- what a machine that is served posts has mouths
+  pub posts_served : (cause : Cause) (core core' : Core)
+      (posts none sends : List Post) → none ≡ [] → sends ≡ none ++ posts → Event cause core core' posts
+      → IsServed cast mouths core → HaveMouths cast mouths sends
+  posts_served cause core core' posts none sends empty are event served =
+      subst (HaveMouths cast mouths) (sym (are ∙ ap (λ ps. ps ++ posts) empty))
+      (served.go posts (event.over served.start served.lists served.stands))
 
 -- where the receivers of posts have mouths, the next one's has
 pub have_next : (cast : Cast) (mouths : List (Option Sending)) (before : List Post) (post : Post)

@@ -13,11 +13,12 @@ pub frames_so_far : (old begun standing worked : List SeatView) → standing ≡
 frames_so_far old begun standing worked is frames works =
     frames_worked standing worked works.len works.each ∙ ap (map frame_of) is ∙ frames
 
--- some turns ahead, the turns of all, none of which is spent, and nothing else behind them: each seat has advanced
-pub all_went : (old begun standing worked new : List SeatView) → standing ≡ begun → length begun ≡ length old
-    → AllStep old begun → AllWorked standing worked → NoneSpent worked
-    → ((n : ℕ) (d : SeatView) → n < length worked → IsAlike (slice_index_or worked n d) (slice_index_or new n d))
-    → AllAdvance old new
-all_went old begun standing worked new is long stepped works none alike =
-    all_advance_after old begun new long stepped
-    (all_advance begun worked new (works.len ∙ ap length is) (subst (λ xs. AllWork xs worked) is works.each) none alike)
+module _ (old begun standing worked : List SeatView) where
+  -- some turns ahead, the turns of all, none of which is spent, and nothing else behind them: each seat has advanced
+  pub all_went : (new : List SeatView) → standing ≡ begun → length begun ≡ length old
+      → AllStep old begun → AllWorked standing worked → NoneSpent worked
+      → ((n : ℕ) (d : SeatView) → n < length worked → IsAlike (slice_index_or worked n d) (slice_index_or new n d))
+      → AllAdvance old new
+  all_went new is long stepped works none alike =
+      all_advance_after old begun new long stepped
+      (all_advance begun worked new (works.len ∙ ap length is) (subst (λ xs. AllWork xs worked) is works.each) none alike)
