@@ -14,7 +14,6 @@ use Rattle.theta_pred.specs.contracts.agree.Access as access
 use Rattle.theta_pred.specs.contracts.theta.Theta as theta
 use Rattle.store_parts.specs.contracts.half.Half as half
 use Rattle.store_parts.specs.contracts.store.Store as store
-use Rattle.joiner_core.specs.contracts.stock.Stock as stock
 use Rattle.joiner_core.specs.contracts.epochs.Opened as opened
 use Rattle.joiner_core.specs.contracts.epochs.Epochs as epochs
 use Rattle.joiner_core.specs.contracts.joiner.Joiner as joiner
@@ -32,14 +31,11 @@ module _ (theta_sync : IsSync theta.the_row) (access_send : IsSend access.the_ro
       search (view_send, declared_send, variants_send, as_row_send, heap.crosses, keys.the_send, half_send)
       depth 40 fits 20000
 
-  stock_send : IsSend stock.the_row
-  stock_send = search (view_send, declared_send, store_send) depth 40
-
   opened_send : IsSend opened.the_row
-  opened_send = search (sendable, declared_send, as_row_send, heap.crosses, stock_send) depth 40 fits 20000
+  opened_send = search (sendable, declared_send, as_row_send, heap.crosses, store_send) depth 40 fits 20000
 
   epochs_send : (κ : _) → IsSend (epochs.the_row κ)
-  epochs_send κ = search (sendable, heap.crosses, stock_send, opened_send) depth 40 fits 20000
+  epochs_send κ = search (sendable, heap.crosses, store_send, opened_send) depth 40 fits 20000
 
   joiner_send : (κ : _) → IsSend (joiner.the_row κ)
   joiner_send κ = search (sendable, heap.crosses, epochs_send, helds.the_send, messages.the_send) depth 40 fits 20000

@@ -17,7 +17,7 @@ use Rattle.epoch_tags.specs.Held.{held_at}
 use Rattle.joiner_law.specs.Law.{JoinerStart, JoinerLists}
 use Rattle.joiner_core.specs.State.{DifferInOneBit, MachineState}
 use Rattle.joiner_law.specs.Standing.{with_sent}
-use Rattle.joiner_core.specs.Machine.{StandsBetween, Receives, IsSound, with_message}
+use Rattle.joiner_core.specs.Machine.{StandsBetween, Receives, IsSound, held_messages, with_message}
 use Rattle.joiner_core.specs.Standing.{JoinerState, IsSpent, StandsFor, TakesMessage, held_number}
 use Rattle.joiner_core.proofs.OwnPosts.{all-over, all-rows}
 use Rattle.joiner_core.proofs.WholeLaw.{keeps-law, law-done, machine-done}
@@ -141,13 +141,14 @@ rest-length : (taken held received : List ToJoiner) → taken ++ held ≡ receiv
 rest-length taken held received is = let a = length-append taken held in
     let b : length (taken ++ held) ≡ length received = ap length is in omega arith
 
-sat : (a b top : ℕ) → min (min a top + min b top) top ≡ min (a + b) top
-sat a b top = omega arith
+-- the sum of two numbers that are cut at the same number, cut there
+pub cut-sum : (a b top : ℕ) (cut_a cut_b cut : ℕ) → cut_a ≡ min a top → cut_b ≡ min b top
+    → cut ≡ min (cut_a + cut_b) top → cut ≡ min (a + b) top
+cut-sum a b top cut_a cut_b cut of_a of_b of_sum = omega arith
 
 -- a machine between calls holds as many messages as it received and didn't take
 pub held-law : (s : JoinerStart) (lists : JoinerLists) (m : MachineState) (is : StandsBetween s lists m)
-    → total (length m.of_feeders) (λ p. length (held_at m.of_feeders p))
-    + total (length m.of_joiners) (λ q. length (held_at m.of_joiners q)) ≡ held_number s lists is.within.taken
+    → held_messages m ≡ held_number s lists is.within.taken
 held-law s lists m is =
     let w = is.within in
     let fixed = w.stands.fixed in
@@ -165,18 +166,3 @@ held-law s lists m is =
     k
     ∙ ap (λ a. a + total (2 ^ s.k) (λ q. length (held_at m.of_joiners q))) one
     ∙ ap (λ b. total s.feeders (λ p. length (lists.from_feeder p) - length (w.taken.from_feeder p)) + b) two
-
--- and the sum of what it holds of feeders and of joiners, each number cut at the greatest of 64 bits, is that number
--- cut there
-pub held-count : (s : JoinerStart) (lists : JoinerLists) (m : MachineState) (is : StandsBetween s lists m) (a b n : ℕ)
-    → a ≡ min (total (length m.of_feeders) (λ p. length (held_at m.of_feeders p))) (2 ^ 64 - 1)
-    → b ≡ min (total (length m.of_joiners) (λ q. length (held_at m.of_joiners q))) (2 ^ 64 - 1)
-    → n ≡ min (a + b) (2 ^ 64 - 1) → n ≡ min (held_number s lists is.within.taken) (2 ^ 64 - 1)
-held-count s lists m is a b n one two all =
-    all
-    ∙ ap (λ i. min (i + b) (2 ^ 64 - 1)) one
-    ∙ ap (λ i. min (min (total (length m.of_feeders) (λ p. length (held_at m.of_feeders p))) (2 ^ 64 - 1) + i)
-    (2 ^ 64 - 1)) two
-    ∙ sat (total (length m.of_feeders) (λ p. length (held_at m.of_feeders p)))
-    (total (length m.of_joiners) (λ q. length (held_at m.of_joiners q))) (2 ^ 64 - 1)
-    ∙ ap (λ i. min i (2 ^ 64 - 1)) (held-law s lists m is)

@@ -228,9 +228,17 @@ ended-within : (m m1 : EpochState) (ready : Bool) → IsWithin m → m1 ≡ afte
     → (ready ≡ false → IsReady m1.step → ⊥) → IsWithin (after_settle ready m1)
 ended-within m m1 ready within part = subst (λ (z : EpochState). (ready ≡ true → IsReady z.step)
     → (ready ≡ false → IsReady z.step → ⊥) → IsWithin (after_settle ready z)) (sym part)
-    (λ settles not_yet. settled-within (after_part m) ready settles not_yet within.small within.shift
-    (part-within m.k m.shift m.step within.step) within.ended (part-count m.feeders m.step within.count)
-    (part-begun m.feeders m.step within.begun) within.id within.stock (stock-part m.theta m.step within.step_stock))
+    (λ settles not_yet. settled-within (after_part m) ready settles not_yet (record {
+      small = within.small;
+      shift = within.shift;
+      step = part-within m.k m.shift m.step within.step;
+      ended = within.ended;
+      count = part-count m.feeders m.step within.count;
+      begun = part-begun m.feeders m.step within.begun;
+      id = within.id;
+      stock = within.stock;
+      step_stock = stock-part m.theta m.step within.step_stock;
+    }))
 
 -- the open step leads to a neighbouring shift within the grid still, once its partner's part is over
 pub part-step : (m m1 : EpochState) → m1 ≡ after_part m → IsStepWithin m.k m.shift m.step

@@ -7,8 +7,9 @@ use Rattle.epoch_tags.specs.Flags.{flag_at}
 use Rattle.epoch_tags.specs.Held.{held_at}
 use Rattle.theta_pred.specs.Formula.{Meaning}
 use Rattle.theta_pred.proofs.OneWay.{one_key_at_most, one_access_at_most}
-use Rattle.joiner_core.specs.Beginnings.{BeginningsAreOne, IsFirstStock}
+use Rattle.joiner_core.specs.Beginnings.{BeginningsAreOne, HasBegun, IsFirstStock}
 use Rattle.joiner_core.specs.Machine.{IsMade}
+use Rattle.joiner_core.specs.Standing.{JoinerState}
 use Rattle.joiner_core.specs.State.{MachineState, Stocked}
 
 -- as many flags that are all down are the same flags
@@ -59,25 +60,29 @@ module _ (k id shift epoch feeders : ℕ) (theta : Meaning) where
         moved = same_moved i;
       }
 
--- so joiners are
+  -- so joiners are
+  one_joiner : (tuples : List Tuple) (one two : JoinerState) → HasBegun k id shift epoch feeders theta tuples one
+      → HasBegun k id shift epoch feeders theta tuples two → one ≡ two
+  one_joiner tuples one two is is' =
+      let m = one.machine in
+      let m' = two.machine in
+      let same_store = one_stock theta tuples m.epochs.store m'.epochs.store is.stock is'.stock in
+      let same_epochs = one_epochs m m' is.made is'.made same_store in
+      let same_feeders = same_queues m.of_feeders m'.of_feeders (is.made.of_feeders ∙ sym is'.made.of_feeders)
+      is.made.no_feeders is'.made.no_feeders in
+      let same_joiners = same_queues m.of_joiners m'.of_joiners (is.made.of_joiners ∙ sym is'.made.of_joiners)
+      is.made.no_joiners is'.made.no_joiners in
+      let same_told = is.made.told ∙ sym is'.made.told in
+      let same_spent = is.at_work ∙ sym is'.at_work in
+      λ i. record {
+        machine = record {
+          epochs = same_epochs i;
+          of_feeders = same_feeders i;
+          of_joiners = same_joiners i;
+          told = same_told i;
+        };
+        spent = same_spent i;
+      }
+
 pub one_beginning : BeginningsAreOne
-one_beginning k id shift epoch feeders theta tuples one two is is' =
-    let m = one.machine in
-    let m' = two.machine in
-    let same_store = one_stock theta tuples m.epochs.store m'.epochs.store is.stock is'.stock in
-    let same_epochs = one_epochs k id shift epoch feeders theta m m' is.made is'.made same_store in
-    let same_feeders = same_queues m.of_feeders m'.of_feeders (is.made.of_feeders ∙ sym is'.made.of_feeders)
-    is.made.no_feeders is'.made.no_feeders in
-    let same_joiners = same_queues m.of_joiners m'.of_joiners (is.made.of_joiners ∙ sym is'.made.of_joiners)
-    is.made.no_joiners is'.made.no_joiners in
-    let same_told = is.made.told ∙ sym is'.made.told in
-    let same_spent = is.at_work ∙ sym is'.at_work in
-    λ i. record {
-      machine = record {
-        epochs = same_epochs i;
-        of_feeders = same_feeders i;
-        of_joiners = same_joiners i;
-        told = same_told i;
-      };
-      spent = same_spent i;
-    }
+one_beginning k id shift epoch feeders theta = one_joiner k id shift epoch feeders theta

@@ -95,28 +95,36 @@ settled-within-step m (Some o) ready small step ended id stock = record {
   step_stock = tt;
 }
 
--- of a machine of which all holds that holds between two messages, but that its step may be ready: all holds once a
--- ready step is settled, and no other
+-- what holds of the machine before a step that may be ready is settled: all that holds between two messages, but that
+-- no step is ready
+pub record IsUnsettled (m : EpochState) : Type 0 where
+  pub small : m.k ≤ 8
+  pub shift : m.shift ≤ m.k
+  pub step : IsStepWithin m.k m.shift m.step
+  pub ended : length m.ended ≡ m.feeders
+  pub count : IsCounted m.feeders m.step
+  pub begun : HasSomeTurn m.feeders m.step
+  pub id : m.id < 2 ^ m.k
+  pub stock : IsStock m.theta m.store
+  pub step_stock : IsStepStock m.theta m.step
+
+-- all holds once a ready step is settled, and no other
 pub settled-within : (m : EpochState) (ready : Bool) → (ready ≡ true → IsReady m.step)
-    → (ready ≡ false → IsReady m.step → ⊥)
-    → m.k ≤ 8 → m.shift ≤ m.k → IsStepWithin m.k m.shift m.step → length m.ended ≡ m.feeders
-    → IsCounted m.feeders m.step → HasSomeTurn m.feeders m.step
-    → m.id < 2 ^ m.k → IsStock m.theta m.store → IsStepStock m.theta m.step → IsWithin (after_settle ready m)
-settled-within m true settles not_yet small low step ended count begun id stock step_stock =
-    settled-within-step m m.step (settles refl) small step ended id step_stock
-settled-within m false settles not_yet small low step ended count begun id stock step_stock =
-    record {
-      small = small;
-      shift = low;
-      step = step;
-      ended = ended;
-      count = count;
-      begun = begun;
-      rests = not_yet refl;
-      id = id;
-      stock = stock;
-      step_stock = step_stock;
-    }
+    → (ready ≡ false → IsReady m.step → ⊥) → IsUnsettled m → IsWithin (after_settle ready m)
+settled-within m true settles not_yet is =
+    settled-within-step m m.step (settles refl) is.small is.step is.ended is.id is.step_stock
+settled-within m false settles not_yet is = record {
+  small = is.small;
+  shift = is.shift;
+  step = is.step;
+  ended = is.ended;
+  count = is.count;
+  begun = is.begun;
+  rests = not_yet refl;
+  id = is.id;
+  stock = is.stock;
+  step_stock = is.step_stock;
+}
 
 -- settling a step doesn't change the grid's k
 pub settled-k : (m : EpochState) (ready : Bool) → (after_settle ready m).k ≡ m.k

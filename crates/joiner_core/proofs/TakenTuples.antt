@@ -1,15 +1,14 @@
 -- The machine stands for its lists after a tuple of a feeder, as the whole call.
-use Rattle.std.proofs.Common.{◌≡◌, ℕ, ◌+◌, ◌<◌, refl, sym, ◌∙◌, subst, arith, Bool, true, false, cond, Option, Some}
+use Rattle.std.proofs.Common.{◌≡◌, ℕ, ◌+◌, ◌<◌, refl, sym, ◌∙◌, subst, arith, true, false, cond, Option, Some}
 use Rattle.std.proofs.Common.{None, List, [], ◌∷◌, ◌++◌, length}
 use Rattle.std.proofs.lemmas.List.{append-nil}
 use Rattle.std.proofs.lemmas.Bool.{false≢true, false_from_ne_true}
-use Rattle.row_cells.specs.declared.table.Side.{Side}
 use Rattle.epoch_tags.specs.declared.tuple.Tuple.{Tuple}
 use Rattle.epoch_tags.specs.declared.tuple.Pair.{Pair}
 use Rattle.epoch_tags.specs.declared.message.ToJoiner.TheVariants.{Tup}
 use Rattle.migration_plan.specs.Steps.{holds, exchanged_side, partner_in_step}
 use Rattle.joiner_law.specs.Law.{JoinerStart, JoinerLists, Taken}
-use Rattle.joiner_law.specs.History.{Step, probed, with_arrived, all_tuples, only_stamp}
+use Rattle.joiner_law.specs.History.{probed, with_arrived, all_tuples, only_stamp}
 use Rattle.joiner_law.specs.Standing.{took_of_feeder, with_sent, StandsOpen}
 use Rattle.joiner_law.proofs.Partners.{counts-arrived}
 use Rattle.joiner_law.proofs.TakenTuples.{settled-tup, open-late, open-tup}

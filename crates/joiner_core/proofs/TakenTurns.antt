@@ -173,17 +173,22 @@ took-turn m m1 m2 m3 p epoch shift last ready waiting before s1 s2 after few wit
     let id2 : m2.id < 2 ^ m2.k = subst (λ (n : ℕ). m2.id < 2 ^ n) (sym k2)
     (subst (λ (n : ℕ). n < 2 ^ m.k) (sym i2) within.id) in
     let within3 : IsWithin (after_settle ready m2) =
-    settled-within m2 ready settles not_yet (let small = within.small in omega arith) (let low = within.shift in
-    omega arith)
-    (subst (λ (n : ℕ). IsStepWithin n m2.shift m2.step) (sym k2)
-    (subst (λ (n : ℕ). IsStepWithin m.k n m2.step) (sym b2) step2))
-    (ap (λ (z : EpochState). length z.ended) rest2 ∙ ap (λ (z : EpochState). length z.ended) rest1 ∙ within.ended
-    ∙ sym n2)
-    (subst (λ (n : ℕ). IsCounted n m2.step) (sym n2) (turned-count m.feeders p m1.step m2.step turned count1))
-    (subst (λ (n : ℕ). HasSomeTurn n m2.step) (sym n2) (turned-some m.feeders p m1.step m2.step few turned count1))
-    id2
-    (subst (λ (th : Meaning). IsStock th m2.store) (sym th2) (subst (IsStock m.theta) (sym store2) within.stock))
-    (subst (λ (th : Meaning). IsStepStock th m2.step) (sym th2) stock2) in
+    settled-within m2 ready settles not_yet (record {
+      small = let small = within.small in omega arith;
+      shift = let low = within.shift in omega arith;
+      step = subst (λ (n : ℕ). IsStepWithin n m2.shift m2.step) (sym k2)
+          (subst (λ (n : ℕ). IsStepWithin m.k n m2.step) (sym b2) step2);
+      ended = ap (λ (z : EpochState). length z.ended) rest2 ∙ ap (λ (z : EpochState). length z.ended) rest1
+          ∙ within.ended ∙ sym n2;
+      count = subst (λ (n : ℕ). IsCounted n m2.step) (sym n2)
+          (turned-count m.feeders p m1.step m2.step turned count1);
+      begun = subst (λ (n : ℕ). HasSomeTurn n m2.step) (sym n2)
+          (turned-some m.feeders p m1.step m2.step few turned count1);
+      id = id2;
+      stock = subst (λ (th : Meaning). IsStock th m2.store) (sym th2)
+          (subst (IsStock m.theta) (sym store2) within.stock);
+      step_stock = subst (λ (th : Meaning). IsStepStock th m2.step) (sym th2) stock2;
+    }) in
     record {
       added = begun_posts m epoch shift m.step ++ posts_turned m1 last ++ posts_settled ready m2;
       sends = posts3 ∙ ap (λ zs. zs ++ posts_settled ready m2) (posts2 ∙ ap (λ zs. zs ++ posts_turned m1 last) posts1)

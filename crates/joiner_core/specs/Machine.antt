@@ -2,6 +2,7 @@
 use Rattle.std.specs.Prelude.{◌≡◌, ℕ, ◌+◌, ◌^◌, ◌<◌, ◌≤◌, map, slice_set, ◌⊎◌, Bool, true, false, None, Some, ⊤, List}
 use Rattle.std.specs.Prelude.{suc, [], ◌∷◌, ◌++◌, length}
 use Rattle.std.specs.List.{AllByRecursion}
+use Rattle.row_cells.specs.Lists.{total}
 use Rattle.epoch_tags.specs.declared.tuple.Pair.{Pair}
 use Rattle.epoch_tags.specs.declared.message.ToCollector.{ToCollector}
 use Rattle.epoch_tags.specs.declared.message.Post.{Post}
@@ -28,6 +29,12 @@ use Rattle.joiner_core.specs.declared.machine.Machine.{Machine}
 -- what the code's machine holds
 abbrev pub state_of : Machine → MachineState
 state_of m = record { epochs = m.epochs; of_feeders = m.of_feeders; of_joiners = m.of_joiners; told = m.told }
+
+-- how many messages it holds, link by link
+abbrev pub held_messages : MachineState → ℕ
+held_messages m =
+    total (length m.of_feeders) (λ p. length (held_at m.of_feeders p))
+    + total (length m.of_joiners) (λ q. length (held_at m.of_joiners q))
 
 -- in the midst of a call: what was taken and what is held are what was received
 pub record StandsWithin (s : JoinerStart) (lists : JoinerLists) (waiting : List Pair) (m : MachineState) : Type 0 where

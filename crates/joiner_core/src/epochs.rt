@@ -8,8 +8,16 @@ ghost use Rattle.joiner_law.specs.History.{probed};
 ghost use Rattle.joiner_core.specs.State.{stocked_of, HasRow, named_by, does_hold, with_placed, IsRow, IsStock};
 ghost use Rattle.joiner_law.specs.Posting.{moved_post};
 
-use crate::stock::Stock;
-use epoch_tags::{Actor, Counts, Msg, Pairs, Post, Sends, ToJoiner, Tuple, are_all_up, is_up};
+mod end;
+mod fin;
+mod links;
+mod moved;
+mod settle;
+mod tup;
+mod turn;
+
+use crate::stock::{self, move_to};
+use epoch_tags::{Counts, Pairs, Sends, ToJoiner, Tuple, are_all_up, is_up};
 use grid_map::Shape;
 use migration_plan::kept;
 use row_cells::Side;
@@ -20,23 +28,23 @@ use theta_pred::Theta;
 
 #[derive(Drop)]
 pub(crate) struct Epochs<'a> {
-    pub(crate) k: u32,
-    pub(crate) id: u32,
-    pub(crate) feeders: u32,
-    pub(crate) theta: &'a Theta,
-    pub(crate) epoch: u32,
-    pub(crate) shift: u32,
-    pub(crate) store: Stock,
-    pub(crate) ended: Vec<bool>,
-    pub(crate) step: Option<Opened>,
-    pub(crate) moved: Counts,
-    pub(crate) alloc: Global,
+    k: u32,
+    id: u32,
+    feeders: u32,
+    theta: &'a Theta,
+    epoch: u32,
+    shift: u32,
+    store: Store,
+    ended: Vec<bool>,
+    step: Option<Opened>,
+    moved: Counts,
+    alloc: Global,
 }
 
 impl<'a> Model for Epochs<'a> {
     ghost use Rattle.std.specs.Coded.{codes};
     ghost use Rattle.theta_pred.specs.FormulaCode.{formula_code};
-    ghost use Rattle.joiner_core.specs.State.{EpochState};
+    ghost use Rattle.joiner_core.specs.State.{EpochState, stocked_of};
 
     ghost Value = { EpochState };
 
@@ -49,7 +57,7 @@ impl<'a> Model for Epochs<'a> {
       theta = e.theta.now;
       epoch = e.epoch;
       shift = e.shift;
-      store = e.store;
+      store = stocked_of e.store;
       ended = e.ended.items;
       step = e.step;
       moved = e.moved;
@@ -90,6 +98,46 @@ fn has_row(theta: &Theta, m: &ToJoiner) -> bool
 }
 
 impl<'a> Epochs<'a> {
+    // The epochs of a joiner that is settled there with this store, before any message.
+    pub(crate) fn settled_at(
+        alloc: Global,
+        k: u32,
+        id: u32,
+        shift: u32,
+        epoch: u32,
+        feeders: u32,
+        theta: &'a Theta,
+        store: Store,
+        ended: Vec<bool>,
+    ) -> Epochs<'a>
+        ensures { result ≡ record {
+          k = k;
+          id = id;
+          feeders = feeders;
+          theta = theta.now;
+          epoch = epoch;
+          shift = shift;
+          store = stocked_of store;
+          ended = ended.items;
+          step = None;
+          moved = [];
+        } }
+    {
+        Epochs {
+            k,
+            id,
+            feeders,
+            theta,
+            epoch,
+            shift,
+            store,
+            ended,
+            step: None,
+            moved: Counts::new(alloc),
+            alloc,
+        }
+    }
+
     // The epoch of the last step that is settled.
     pub(crate) fn settled(&self) -> u32
         ensures { result ≡ self.now.epoch }
@@ -101,7 +149,7 @@ impl<'a> Epochs<'a> {
     pub(crate) fn settled_store(&self) -> &Store
         ensures { stocked_of result.now ≡ self.now.store }
     {
-        self.store.store()
+        &self.store
     }
 
     // The store of that epoch, for good.
@@ -109,7 +157,7 @@ impl<'a> Epochs<'a> {
         ensures { stocked_of result ≡ self.entry.store }
     {
         let Epochs { store, .. } = self;
-        store.into_store()
+        store
     }
 
     pub(crate) fn feeders(&self) -> u32
@@ -135,7 +183,7 @@ impl<'a> Epochs<'a> {
     }
 
     // Whether feeder p has turned in the open step.
-    pub(crate) fn has_turned(&self, p: u32) -> bool
+    fn has_turned(&self, p: u32) -> bool
         ensures { result ≡ turned_in self.now.step p }
     {
         match &self.step {
@@ -144,7 +192,7 @@ impl<'a> Epochs<'a> {
         }
     }
 
-    pub(crate) fn has_ended(&self, p: u32) -> bool
+    fn has_ended(&self, p: u32) -> bool
         ensures { result ≡ flag_at self.now.ended p }
     {
         is_up(&self.ended, p)
@@ -160,19 +208,19 @@ impl<'a> Epochs<'a> {
 }
 
 #[derive(Drop)]
-pub(crate) struct Opened {
-    pub(crate) epoch: u32,
-    pub(crate) shift: u32,
-    pub(crate) turned: Vec<bool>,
-    pub(crate) store: Stock,
-    pub(crate) partner_ended: bool,
-    pub(crate) alloc: Global,
+struct Opened {
+    epoch: u32,
+    shift: u32,
+    turned: Vec<bool>,
+    store: Store,
+    partner_ended: bool,
+    alloc: Global,
 }
 
 impl Model for Opened {
     ghost use Rattle.std.specs.Coded.{codes};
     ghost use Rattle.theta_pred.specs.FormulaCode.{formula_code};
-    ghost use Rattle.joiner_core.specs.State.{OpenStep};
+    ghost use Rattle.joiner_core.specs.State.{OpenStep, stocked_of};
 
     ghost Value = { OpenStep };
 
@@ -182,7 +230,7 @@ impl Model for Opened {
       epoch = o.epoch;
       shift = o.shift;
       turned = o.turned.items;
-      store = o.store;
+      store = stocked_of o.store;
       partner_ended = o.partner_ended;
     } };
 }
@@ -199,25 +247,8 @@ fn is_of(side: Side, tuple: &Tuple) -> bool
     }
 }
 
-// Sends a copy of a tuple to a joiner.
-pub(crate) fn move_to(
-    to: u32,
-    epoch: u32,
-    tuple: &Tuple,
-    sends: &mut Sends,
-) -> Result<(), AllocError>
-    ensures { OnOk result (sends.new ≡ sends.old ++ moved_post to epoch tuple.now ∷ []) }
-{
-    let tuple = tuple.copy()?;
-    sends.push(Post {
-        to: Actor::Joiner(to),
-        msg: Msg::Joiner(ToJoiner::Moved { epoch, tuple }),
-    })?;
-    Ok(())
-}
-
-// The same, if it is of that side.
-pub(crate) fn pass_on(
+// Sends a copy of a tuple to a joiner, if it is of that side.
+fn pass_on(
     side: Side,
     to: u32,
     epoch: u32,
@@ -234,7 +265,7 @@ pub(crate) fn pass_on(
 
 impl Opened {
     // Feeder p has turned.
-    pub(crate) fn turn(&mut self, p: u32)
+    fn turn(&mut self, p: u32)
         ensures rest { self.new ≡ record self.old { turned = self.new.turned } }
         ensures turned { self.new.turned ≡ slice_set self.old.turned p true }
     {
@@ -244,7 +275,7 @@ impl Opened {
     }
 
     // A tuple from before the step joins with the new ones, if it is kept.
-    pub(crate) fn keep(
+    fn keep(
         &mut self,
         k: u32,
         id: u32,
@@ -266,16 +297,21 @@ impl Opened {
             shift: self.shift,
         };
         if kept(shape, id, tuple) {
-            self.store
-                .probe(tuple, theta, Which::OnlyStamp(self.epoch), found)?;
+            stock::probe(
+                &self.store,
+                tuple,
+                theta,
+                Which::OnlyStamp(self.epoch),
+                found,
+            )?;
             let copy = tuple.copy()?;
-            self.store.add(theta, copy)?;
+            stock::add(&mut self.store, theta, copy)?;
         }
         Ok(())
     }
 
     // A tuple of the step's own epoch.
-    pub(crate) fn take(
+    fn take(
         &mut self,
         theta: &Theta,
         which: Which,
@@ -290,7 +326,7 @@ impl Opened {
             (found.new ≡ found.old
             ++ probed (does_hold theta.now) (named_by which) tuple self.old.store.tuples) }
     {
-        self.store.probe(&tuple, theta, which, found)?;
-        self.store.add(theta, tuple)
+        stock::probe(&self.store, &tuple, theta, which, found)?;
+        stock::add(&mut self.store, theta, tuple)
     }
 }

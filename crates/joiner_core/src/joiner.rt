@@ -10,12 +10,10 @@ ghost use Rattle.joiner_law.specs.Law.{JoinerStart, JoinerLists, IsFinished, sto
 ghost use Rattle.theta_pred.specs.Accesses.{IsOverRows};
 ghost use Rattle.joiner_core.specs.Beginnings.{HasBegun, BeginningsAreOne};
 ghost use Rattle.joiner_core.specs.Machine.{start_of, nothing_yet};
-ghost use Rattle.joiner_core.specs.State.{tuples_of, IsAccessOf, IsKeyOf, AreRows, HasRow, DifferInOneBit};
+ghost use Rattle.joiner_core.specs.State.{tuples_of, IsAccessOf, IsKeyOf, AreRows, HasRow};
 ghost use Rattle.joiner_core.specs.Standing.{IsSpent, IsJoiner, theta_of, StandsFor, held_number, k_of, id_of, feeders_of, TakesMessage};
 
-use crate::epochs::{Epochs, joiners};
 use crate::machine::Machine;
-use crate::stock::Stock;
 use epoch_tags::{Actor, Sends, ToJoiner};
 use std::alloc::{AllocError, Global};
 use std::marker::Model;
@@ -82,50 +80,6 @@ pub fn first_store(alloc: Global, theta: &Theta) -> Result<Store, AllocError>
     accessed(theta, store)
 }
 
-// Whether two joiners of 2 ^ k differ in one bit of their ids.
-fn differ_in_one_bit(k: u32, from: u32, to: u32) -> bool
-    requires { k ≤ 8 }
-    ensures up { result ≡ true → DifferInOneBit k from to }
-    ensures down { result ≡ false → ¬ DifferInOneBit k from to }
-{
-    for low in 0..k {
-        if from ^ (1u32 << low) == to {
-            return true;
-        }
-    }
-    false
-}
-
-// Whether this sender has a link to joiner `id` of 2 ^ k, of a run with so many feeders.
-fn has_link(k: u32, id: u32, feeders: u32, from: Actor) -> bool
-    requires { k ≤ 8 }
-    ensures up { result ≡ true → HasLink k feeders from (Joiner' id) }
-    ensures down { result ≡ false → ¬ HasLink k feeders from (Joiner' id) }
-{
-    let count = joiners(k);
-    if id >= count {
-        return false;
-    }
-    match from {
-        Actor::Feeder(p) => p < feeders,
-        Actor::Joiner(q) => q < count && differ_in_one_bit(k, q, id),
-        Actor::Controller => false,
-        Actor::Collector => false,
-    }
-}
-
-impl<'a> Epochs<'a> {
-    fn hears(&self, from: Actor) -> bool
-        requires { self.now.k ≤ 8 }
-        ensures up { result ≡ true
-            → HasLink self.now.k self.now.feeders from (Joiner' self.now.id) }
-        ensures down { result ≡ false
-            → ¬ HasLink self.now.k self.now.feeders from (Joiner' self.now.id) }
-    {
-        has_link(self.k, self.id, self.feeders, from)
-    }
-}
-
 impl<'a> Joiner<'a> {
     /// Joiner `id` of `2^k`, at epoch 0 and with an empty store. Each feeder has a link to it.
     pub fn start(
@@ -186,16 +140,7 @@ impl<'a> Joiner<'a> {
             HasBegun k id shift epoch feeders theta.now (tuples_of base) joiner) }
     {
         let store = accessed(theta, base)?;
-        let machine = Machine::start_at(
-            alloc,
-            k,
-            id,
-            shift,
-            epoch,
-            feeders,
-            theta,
-            Stock::of(store),
-        )?;
+        let machine = Machine::start_at(alloc, k, id, shift, epoch, feeders, theta, store)?;
         Ok(Joiner {
             machine,
             spent: false,
@@ -208,7 +153,7 @@ impl<'a> Joiner<'a> {
             (stands : StandsFor start lists self.now)
             → result ≡ start.epoch + stands.law.done }
     {
-        self.machine.epochs.settled()
+        self.machine.settled()
     }
 
     /// How many messages are held, or `2^64 - 1` where there are more.
@@ -217,10 +162,7 @@ impl<'a> Joiner<'a> {
             (stands : StandsFor start lists self.now)
             → result ≡ min (held_number start lists stands.taken) (2 ^ 64 - 1) }
     {
-        self.machine
-            .of_feeders
-            .count()
-            .saturating_add(self.machine.of_joiners.count())
+        self.machine.held_count()
     }
 
     /// Whether all feeders have ended, no step is open and nothing is held.
@@ -240,7 +182,7 @@ impl<'a> Joiner<'a> {
             (stands : StandsFor start lists self.now)
             → SameBag (tuples_of result.now) (store start stands.taken stands.law.done) }
     {
-        self.machine.epochs.settled_store()
+        self.machine.settled_store()
     }
 
     /// The rows that it holds in its settled epoch, for good: once it is finished, those of its last store.
@@ -252,7 +194,7 @@ impl<'a> Joiner<'a> {
             → SameBag (tuples_of result) (store start stands.taken stands.law.done) }
     {
         let Joiner { machine, .. } = self;
-        machine.epochs.into_store()
+        machine.into_store()
     }
 
     /// Whether want of memory has stopped it.
@@ -268,14 +210,14 @@ impl<'a> Joiner<'a> {
         ensures { IsTrue result
             ↔ HasLink (k_of self.now) (feeders_of self.now) from (Joiner' (id_of self.now)) }
     {
-        self.machine.epochs.hears(from)
+        self.machine.hears(from)
     }
 
     /// Whether the row that the message carries, if it carries one, has a cell for each column of its side.
     pub fn fits(&self, m: &ToJoiner) -> bool
         ensures { IsTrue result ↔ HasRow (theta_of self.now) m.now }
     {
-        self.machine.epochs.fits(m)
+        self.machine.fits(m)
     }
 
     /// Takes a message, or holds it behind its link, and appends what it sends. After want of memory it is spent, and

@@ -1,26 +1,30 @@
 // A joiner's machine: what it has of its epochs, the messages that it holds, and the taking of each kind of message.
 
-ghost use Rattle.std.specs.Prelude.{◌≡◌, ◌<◌, ◌≤◌, ◌^◌, [], true, false, OnOk, IfOk, ℕ, length};
+ghost use Rattle.std.specs.Prelude.{◌≡◌, ◌<◌, ◌≤◌, ◌^◌, ◌-◌, [], true, false, OnOk, IfOk, ℕ, length, min};
 ghost use Rattle.epoch_tags.specs.Flags.{flag_at};
 ghost use Rattle.epoch_tags.specs.Held.{held_at};
-ghost use Rattle.joiner_core.specs.State.{HasRow};
-ghost use Rattle.joiner_core.specs.Machine.{state_of, IsMade, IsSound, Accepts, IsOfGrid, Receives};
+ghost use Rattle.joiner_core.specs.State.{HasRow, stocked_of};
+ghost use Rattle.epoch_tags.specs.Links.{HasLink};
+ghost use Rattle.joiner_core.specs.Machine.{state_of, held_messages, IsMade, IsSound, Accepts, IsOfGrid, Receives};
 ghost use Rattle.epoch_tags.specs.declared.actor.Actor.TheVariants.{Feeder, Joiner as Joiner'};
 ghost use Rattle.joiner_core.specs.Taking.{IsWithin, TookOfFeeder, TookOfJoiner, TakesOfFeeder, TakesOfJoiner};
 
+mod order_of_held;
+mod report;
+
 use crate::epochs::{Epochs, joiners};
-use crate::stock::Stock;
-use epoch_tags::{Actor, Counts, Held, Pairs, Sends, ToJoiner, all_down};
+use epoch_tags::{Actor, Held, Pairs, Sends, ToJoiner, all_down};
 use std::alloc::{AllocError, Global};
+use store_parts::Store;
 use theta_pred::Theta;
 
 #[derive(Drop)]
 pub(crate) struct Machine<'a> {
-    pub(crate) epochs: Epochs<'a>,
-    pub(crate) of_feeders: Held<ToJoiner>,
-    pub(crate) of_joiners: Held<ToJoiner>,
-    pub(crate) told: bool,
-    pub(crate) alloc: Global,
+    epochs: Epochs<'a>,
+    of_feeders: Held<ToJoiner>,
+    of_joiners: Held<ToJoiner>,
+    told: bool,
+    alloc: Global,
 }
 
 // What a joiner knows of its senders at its beginning: that no feeder has ended, and of each sender no message is held.
@@ -52,27 +56,16 @@ impl<'a> Machine<'a> {
         epoch: u32,
         feeders: u32,
         theta: &'a Theta,
-        base: Stock,
+        base: Store,
     ) -> Result<Machine<'a>, AllocError>
         requires { k ≤ 8 }
         ensures { IfOk result
-            (λ machine. IsMade k id shift epoch feeders theta.now base (state_of machine)) }
+            (λ machine. IsMade k id shift epoch feeders theta.now (stocked_of base)
+            (state_of machine)) }
     {
         match nothing_heard(alloc, k, feeders) {
             Ok((ended, of_feeders, of_joiners)) => Ok(Machine {
-                epochs: Epochs {
-                    k,
-                    id,
-                    feeders,
-                    theta,
-                    epoch,
-                    shift,
-                    store: base,
-                    ended,
-                    step: None,
-                    moved: Counts::new(alloc),
-                    alloc,
-                },
+                epochs: Epochs::settled_at(alloc, k, id, shift, epoch, feeders, theta, base, ended),
                 of_feeders,
                 of_joiners,
                 told: false,
@@ -107,7 +100,7 @@ impl<'a> Machine<'a> {
     }
 
     // Takes or holds a message.
-    pub(crate) fn accept(
+    fn accept(
         &mut self,
         from: Actor,
         m: ToJoiner,
@@ -130,7 +123,7 @@ impl<'a> Machine<'a> {
         Ok(())
     }
 
-    pub(crate) fn accept_of_feeder(
+    fn accept_of_feeder(
         &mut self,
         p: u32,
         m: ToJoiner,
@@ -152,7 +145,7 @@ impl<'a> Machine<'a> {
         Ok(())
     }
 
-    pub(crate) fn accept_of_joiner(
+    fn accept_of_joiner(
         &mut self,
         q: u32,
         m: ToJoiner,
@@ -176,7 +169,7 @@ impl<'a> Machine<'a> {
 }
 
 impl<'a> Machine<'a> {
-    pub(crate) fn can_take_of_feeder(&self, p: u32, m: &ToJoiner) -> bool
+    fn can_take_of_feeder(&self, p: u32, m: &ToJoiner) -> bool
         ensures up { result ≡ true → TakesOfFeeder self.now.epochs p m.now }
         ensures down { result ≡ false → TakesOfFeeder self.now.epochs p m.now → ⊥ }
     {
@@ -188,7 +181,7 @@ impl<'a> Machine<'a> {
         }
     }
 
-    pub(crate) fn can_take_of_joiner(&self, q: u32, m: &ToJoiner) -> bool
+    fn can_take_of_joiner(&self, q: u32, m: &ToJoiner) -> bool
         requires { IsWithin self.now.epochs }
         ensures up { result ≡ true → TakesOfJoiner self.now.epochs q m.now }
         ensures down { result ≡ false → TakesOfJoiner self.now.epochs q m.now → ⊥ }
@@ -200,7 +193,7 @@ impl<'a> Machine<'a> {
         }
     }
 
-    pub(crate) fn take_of_feeder(
+    fn take_of_feeder(
         &mut self,
         p: u32,
         m: ToJoiner,
@@ -228,7 +221,7 @@ impl<'a> Machine<'a> {
         }
     }
 
-    pub(crate) fn take_of_joiner(
+    fn take_of_joiner(
         &mut self,
         m: ToJoiner,
         found: &mut Pairs,
@@ -254,5 +247,57 @@ impl<'a> Machine<'a> {
             }
             ToJoiner::Tup(_) | ToJoiner::Turn { .. } | ToJoiner::End => Ok(()),
         }
+    }
+}
+
+impl<'a> Machine<'a> {
+    // The epoch of the last step that is settled.
+    pub(crate) fn settled(&self) -> u32
+        ensures { result ≡ self.now.epochs.epoch }
+    {
+        self.epochs.settled()
+    }
+
+    // The store of that epoch.
+    pub(crate) fn settled_store(&self) -> &Store
+        ensures { stocked_of result.now ≡ self.now.epochs.store }
+    {
+        self.epochs.settled_store()
+    }
+
+    // The store of that epoch, for good.
+    pub(crate) fn into_store(self) -> Store
+        ensures { stocked_of result ≡ self.entry.epochs.store }
+    {
+        let Machine { epochs, .. } = self;
+        epochs.into_store()
+    }
+
+    // How many messages are held, or 2 ^ 64 - 1 where there are more.
+    pub(crate) fn held_count(&self) -> u64
+        ensures { result ≡ min (held_messages (state_of self.now)) (2 ^ 64 - 1) }
+    {
+        self.of_feeders
+            .count()
+            .saturating_add(self.of_joiners.count())
+    }
+
+    // Whether this sender has a link to this joiner.
+    pub(crate) fn hears(&self, from: Actor) -> bool
+        requires { self.now.epochs.k ≤ 8 }
+        ensures up { result ≡ true → HasLink self.now.epochs.k self.now.epochs.feeders
+            from (Joiner' self.now.epochs.id) }
+        ensures down { result ≡ false → ¬ HasLink self.now.epochs.k self.now.epochs.feeders
+            from (Joiner' self.now.epochs.id) }
+    {
+        self.epochs.hears(from)
+    }
+
+    // Whether the row that the message carries, if it carries one, has the predicate's widths.
+    pub(crate) fn fits(&self, m: &ToJoiner) -> bool
+        ensures up { result ≡ true → HasRow self.now.epochs.theta m.now }
+        ensures down { result ≡ false → HasRow self.now.epochs.theta m.now → ⊥ }
+    {
+        self.epochs.fits(m)
     }
 }

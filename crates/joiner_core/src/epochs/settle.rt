@@ -5,14 +5,15 @@ ghost use Rattle.joiner_core.specs.State.{OpenStep};
 ghost use Rattle.joiner_core.specs.Taking.{IsStepWithin};
 ghost use Rattle.joiner_core.specs.Changes.{after_settle, posts_settled, IsReady};
 
-use crate::epochs::Epochs;
+use super::Epochs;
+use crate::stock;
 use epoch_tags::{Actor, Msg, Post, Sends, ToController, are_all_up};
 use migration_plan::exchanged_side;
 use std::alloc::AllocError;
 
 impl<'a> Epochs<'a> {
     // Whether all feeders have turned and the partner has ended its part.
-    pub(crate) fn is_ready(&self) -> bool
+    fn is_ready(&self) -> bool
         ensures up { result ≡ true → IsReady self.now.step }
         ensures down { result ≡ false → IsReady self.now.step → ⊥ }
     {
@@ -39,8 +40,7 @@ impl<'a> Epochs<'a> {
                 to: Actor::Controller,
                 msg: Msg::Controller(ToController::Settled { epoch: open.epoch }),
             })?;
-            self.moved
-                .push(self.store.count(exchanged_side(self.shift, open.shift)))?;
+            self.moved.push(stock::count(&self.store, exchanged_side(self.shift, open.shift)))?;
         }
         self.close();
         Ok(true)

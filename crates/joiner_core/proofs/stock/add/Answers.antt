@@ -1,11 +1,10 @@
 use Rattle.std.proofs.Common.{ap, ◌∙◌}
 use Rattle.store_parts.specs.Stored.{Stored}
-use Rattle.joiner_core.specs.State.{stocked_of, with_placed}
+use Rattle.joiner_core.specs.State.{stocked_of}
 use Rattle.joiner_core.proofs.StoreLists.{stocked-with}
-use Rattle.joiner_core.proofs.stock.Stock.add.Goals as goal
+use Rattle.joiner_core.proofs.stock.add.Goals as goal
 
 pub returns : goal.returns
 returns c =
     ap (λ (z : Stored). stocked_of z) c.in_ok-add.ensures.ok
-    ∙ stocked-with c.self.inside.store c.args.tuple c.self.invariant
-    ∙ ap (with_placed c.args.tuple) c.self.view_is
+    ∙ stocked-with c.args.store.now c.args.tuple c.are_sided.ensures

@@ -7,13 +7,13 @@ ghost use Rattle.joiner_core.specs.Outcomes.{Does};
 ghost use Rattle.joiner_core.specs.Calls.{held_in_all, takes_all_held};
 ghost use Rattle.epoch_tags.specs.declared.actor.Actor.TheVariants.{Feeder, Joiner as Joiner'};
 
-use crate::machine::Machine;
+use super::Machine;
 use epoch_tags::{Pairs, Sends};
 use std::alloc::AllocError;
 
 impl<'a> Machine<'a> {
     // Takes held messages until none can be taken.
-    pub(crate) fn take_held(
+    pub(super) fn take_held(
         &mut self,
         found: &mut Pairs,
         sends: &mut Sends,
@@ -33,11 +33,7 @@ impl<'a> Machine<'a> {
     }
 
     // Takes the first held message of the first link whose first can be taken.
-    pub(crate) fn take_one_held(
-        &mut self,
-        found: &mut Pairs,
-        sends: &mut Sends,
-    ) -> Result<bool, AllocError>
+    fn take_one_held(&mut self, found: &mut Pairs, sends: &mut Sends) -> Result<bool, AllocError>
         requires { IsSound (state_of self.old) }
         ensures sound { OnOk result (IsSound (state_of self.new)) }
         ensures took { OnOk result
@@ -72,7 +68,7 @@ impl<'a> Machine<'a> {
     }
 
     // Takes the first message held of a feeder.
-    pub(crate) fn take_first_of_feeder(
+    fn take_first_of_feeder(
         &mut self,
         p: u32,
         found: &mut Pairs,
@@ -91,7 +87,7 @@ impl<'a> Machine<'a> {
     }
 
     // Takes the first message held of a joiner.
-    pub(crate) fn take_first_of_joiner(
+    fn take_first_of_joiner(
         &mut self,
         q: u32,
         found: &mut Pairs,
@@ -110,7 +106,7 @@ impl<'a> Machine<'a> {
     }
 
     // The first feeder whose first held message can be taken.
-    pub(crate) fn ready_feeder(&self) -> Option<u32>
+    fn ready_feeder(&self) -> Option<u32>
         requires { IsSound (state_of self.now) }
         ensures ready { MatchOption result
             (AreStuckOfFeeders self.now.epochs.feeders (state_of self.now))
@@ -128,7 +124,7 @@ impl<'a> Machine<'a> {
     }
 
     // The first joiner whose first held message can be taken.
-    pub(crate) fn ready_joiner(&self) -> Option<u32>
+    fn ready_joiner(&self) -> Option<u32>
         requires { IsSound (state_of self.now) }
         ensures ready { MatchOption result
             (AreStuckOfJoiners (2 ^ self.now.epochs.k) (state_of self.now))

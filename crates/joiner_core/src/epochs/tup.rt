@@ -6,7 +6,8 @@ ghost use Rattle.joiner_core.specs.State.{IsRow};
 ghost use Rattle.joiner_core.specs.Taking.{IsWithin, CanTakeTup, TookOfFeeder};
 ghost use Rattle.joiner_core.specs.Changes.{after_old, found_old, posts_old, after_new, found_new};
 
-use crate::epochs::{Epochs, pass_on};
+use super::{Epochs, pass_on};
+use crate::stock;
 use epoch_tags::{Pairs, Sends, Tuple};
 use migration_plan::{exchanged_side, partner_in_step};
 use std::alloc::AllocError;
@@ -55,7 +56,7 @@ impl<'a> Epochs<'a> {
     }
 
     // A tuple of the settled epoch.
-    pub(crate) fn take_old(
+    fn take_old(
         &mut self,
         tuple: Tuple,
         found: &mut Pairs,
@@ -67,7 +68,7 @@ impl<'a> Epochs<'a> {
         ensures found { OnOk result (found.new ≡ found.old ++ found_old self.old tuple) }
         ensures posts { OnOk result (sends.new ≡ sends.old ++ posts_old self.old tuple) }
     {
-        self.store.probe(&tuple, self.theta, Which::All, found)?;
+        stock::probe(&self.store, &tuple, self.theta, Which::All, found)?;
         if let Some(open) = &mut self.step {
             let to = partner_in_step(self.k, self.shift, open.shift, self.id);
             pass_on(
@@ -79,11 +80,11 @@ impl<'a> Epochs<'a> {
             )?;
             open.keep(self.k, self.id, self.theta, &tuple, found)?;
         }
-        self.store.add(self.theta, tuple)
+        stock::add(&mut self.store, self.theta, tuple)
     }
 
     // A tuple of the open step's epoch.
-    pub(crate) fn take_new(&mut self, tuple: Tuple, found: &mut Pairs) -> Result<(), AllocError>
+    fn take_new(&mut self, tuple: Tuple, found: &mut Pairs) -> Result<(), AllocError>
         requires row { IsRow self.old.theta tuple }
         requires within { IsWithin self.old }
         ensures state { OnOk result (self.new ≡ after_new self.old tuple) }

@@ -7,7 +7,8 @@ ghost use Rattle.epoch_tags.specs.declared.message.ToJoiner.TheVariants.{Turn};
 ghost use Rattle.epoch_tags.specs.declared.tuple.Pair.{Pair};
 ghost use Rattle.joiner_core.specs.Changes.{HasBegun, begun_posts, posts_opened, HasOpened, HasTurned, AreAllUp, posts_turned};
 
-use crate::epochs::{Epochs, Opened};
+use super::{Epochs, Opened};
+use crate::stock;
 use epoch_tags::{Actor, Msg, Post, Sends, ToJoiner, all_down, are_all_up};
 use migration_plan::{exchanged_side, partner_in_step};
 use std::alloc::AllocError;
@@ -61,12 +62,7 @@ impl<'a> Epochs<'a> {
     }
 
     // Opens the step, if none is open.
-    pub(crate) fn begin_step(
-        &mut self,
-        epoch: u32,
-        shift: u32,
-        sends: &mut Sends,
-    ) -> Result<(), AllocError>
+    fn begin_step(&mut self, epoch: u32, shift: u32, sends: &mut Sends) -> Result<(), AllocError>
         requires within { IsWithin self.old }
         requires fits { shift ≤ self.old.k }
         requires next { self.old.step ≡ None → AreNeighbours self.old.shift shift }
@@ -82,12 +78,7 @@ impl<'a> Epochs<'a> {
     }
 
     // The first turn opens the step.
-    pub(crate) fn open_step(
-        &mut self,
-        epoch: u32,
-        shift: u32,
-        sends: &mut Sends,
-    ) -> Result<(), AllocError>
+    fn open_step(&mut self, epoch: u32, shift: u32, sends: &mut Sends) -> Result<(), AllocError>
         requires grid { self.old.k ≤ 8 }
         requires shift { self.old.shift ≤ self.old.k }
         requires within { shift ≤ self.old.k }
@@ -98,10 +89,15 @@ impl<'a> Epochs<'a> {
         ensures posts { OnOk result (sends.new ≡ sends.old ++ posts_opened self.old epoch shift) }
     {
         let to = partner_in_step(self.k, self.shift, shift, self.id);
-        self.store
-            .send_side(exchanged_side(self.shift, shift), to, epoch, sends)?;
+        stock::send_side(
+            &self.store,
+            exchanged_side(self.shift, shift),
+            to,
+            epoch,
+            sends,
+        )?;
         let turned = all_down(self.alloc, self.feeders)?;
-        let store = self.store.kept_copy(self.k, shift, self.id)?;
+        let store = stock::kept_copy(&self.store, self.k, shift, self.id)?;
         let opened = Opened {
             epoch,
             shift,
@@ -115,7 +111,7 @@ impl<'a> Epochs<'a> {
     }
 
     // The last one ends this joiner's part of the step. Answers whether it was the last.
-    pub(crate) fn turn(&mut self, p: u32, sends: &mut Sends) -> Result<bool, AllocError>
+    fn turn(&mut self, p: u32, sends: &mut Sends) -> Result<bool, AllocError>
         requires grid { self.old.k ≤ 8 }
         requires shift { self.old.shift ≤ self.old.k }
         requires id { self.old.id < 2 ^ self.old.k }

@@ -5,7 +5,7 @@ ghost use Rattle.joiner_core.specs.State.{IsRow};
 ghost use Rattle.joiner_core.specs.Taking.{IsWithin, PartFits};
 ghost use Rattle.joiner_core.specs.Changes.{after_moved, found_moved, after_part};
 
-use crate::epochs::Epochs;
+use super::Epochs;
 use epoch_tags::{Pairs, Tuple};
 use migration_plan::partner_in_step;
 use std::alloc::AllocError;

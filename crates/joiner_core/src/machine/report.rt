@@ -1,27 +1,12 @@
 // What is sent at the end of a call.
 
-ghost use Rattle.std.specs.Prelude.{◌≡◌, ◌++◌, true, false, OnOk, IfOk};
+ghost use Rattle.std.specs.Prelude.{◌≡◌, ◌++◌, true, false, OnOk};
 ghost use Rattle.joiner_core.specs.Machine.{state_of, TellsFin, HasFinished};
-ghost use Rattle.joiner_core.specs.Calls.{fin_of, found_posts};
+ghost use Rattle.joiner_core.specs.Calls.{found_posts};
 
-use crate::epochs::Epochs;
-use crate::machine::Machine;
-use epoch_tags::{Actor, Counts, Msg, Pairs, Post, Sends, ToCollector};
-use row_cells::Side;
-use std::alloc::{AllocError, Global};
-
-impl<'a> Epochs<'a> {
-    // The last message.
-    fn last_message(&self) -> Result<ToCollector, AllocError>
-        ensures { IfOk result (λ m. m ≡ fin_of self.now) }
-    {
-        Ok(ToCollector::Fin {
-            rows_r: self.store.count(Side::R),
-            rows_s: self.store.count(Side::S),
-            moved: copy_of(self.alloc, &self.moved)?,
-        })
-    }
-}
+use super::Machine;
+use epoch_tags::{Actor, Msg, Pairs, Post, Sends, ToCollector};
+use std::alloc::AllocError;
 
 impl<'a> Machine<'a> {
     // All feeders have ended, no step is open and nothing is held.
@@ -33,7 +18,7 @@ impl<'a> Machine<'a> {
     }
 
     // Sends the pairs of one call, if there are any.
-    pub(crate) fn send_found(&self, found: Pairs, sends: &mut Sends) -> Result<(), AllocError>
+    pub(super) fn send_found(&self, found: Pairs, sends: &mut Sends) -> Result<(), AllocError>
         ensures { OnOk result (sends.new ≡ sends.old ++ found_posts found) }
     {
         if found.len() > 0 {
@@ -46,7 +31,7 @@ impl<'a> Machine<'a> {
     }
 
     // Sends the last message when it first is finished.
-    pub(crate) fn send_fin(&mut self, sends: &mut Sends) -> Result<(), AllocError>
+    pub(super) fn send_fin(&mut self, sends: &mut Sends) -> Result<(), AllocError>
         ensures rest { OnOk result
             (state_of self.new ≡ record (state_of self.old) { told = self.new.told }) }
         ensures tells { OnOk result
@@ -61,15 +46,4 @@ impl<'a> Machine<'a> {
         }
         Ok(())
     }
-}
-
-// Equal numbers.
-pub(crate) fn copy_of(alloc: Global, counts: &Counts) -> Result<Counts, AllocError>
-    ensures { IfOk result (λ copy. copy ≡ counts.now) }
-{
-    let mut copy = Counts::new(alloc);
-    for count in counts.as_slice() {
-        copy.push(*count)?;
-    }
-    Ok(copy)
 }
