@@ -5,19 +5,19 @@ ghost use Rattle.epoch_tags.specs.Flags.{flag_at, IsEachUp};
 ghost use Rattle.joiner_core.specs.Changes.{turned_in, found_late, posts_late, opened_late};
 ghost use Rattle.migration_plan.specs.Steps.{is_of};
 ghost use Rattle.joiner_law.specs.History.{probed};
-ghost use Rattle.joiner_core.specs.State.{stocked_of, HasRow, named_by, does_hold, with_placed, IsRow, IsStock};
+ghost use Rattle.joiner_core.specs.State.{stocked_of, named_by, does_hold, with_placed, IsRow, IsStock};
 ghost use Rattle.joiner_law.specs.Posting.{moved_post};
 
+mod accepts;
 mod end;
 mod fin;
-mod links;
 mod moved;
 mod settle;
 mod tup;
 mod turn;
 
 use crate::stock::{self, move_to};
-use epoch_tags::{Counts, Pairs, Sends, ToJoiner, Tuple, are_all_up, is_up};
+use epoch_tags::{Counts, Pairs, Sends, Tuple, are_all_up, is_up};
 use grid_map::Shape;
 use migration_plan::kept;
 use row_cells::Side;
@@ -70,31 +70,6 @@ pub(crate) fn joiners(k: u32) -> u32
     ensures { result ≡ 2 ^ k }
 {
     1 << k
-}
-
-// Whether the tuple has a cell for each column of its side.
-fn is_row(theta: &Theta, tuple: &Tuple) -> bool
-    ensures up { result ≡ true → IsRow theta.now tuple.now }
-    ensures down { result ≡ false → IsRow theta.now tuple.now → ⊥ }
-{
-    match tuple.side {
-        Side::R => tuple.cells.len() == theta.width_r(),
-        Side::S => tuple.cells.len() == theta.width_s(),
-    }
-}
-
-// So has the tuple that a message carries, if it carries one.
-fn has_row(theta: &Theta, m: &ToJoiner) -> bool
-    ensures up { result ≡ true → HasRow theta.now m.now }
-    ensures down { result ≡ false → HasRow theta.now m.now → ⊥ }
-{
-    match m {
-        ToJoiner::Tup(tuple) => is_row(theta, tuple),
-        ToJoiner::Moved { tuple, .. } => is_row(theta, tuple),
-        ToJoiner::Turn { .. } => true,
-        ToJoiner::MovedEnd { .. } => true,
-        ToJoiner::End => true,
-    }
 }
 
 impl<'a> Epochs<'a> {
@@ -172,14 +147,6 @@ impl<'a> Epochs<'a> {
         ensures { result ≡ 2 ^ self.now.k }
     {
         joiners(self.k)
-    }
-
-    // Whether the row that the message carries, if it carries one, has the predicate's widths.
-    pub(crate) fn fits(&self, m: &ToJoiner) -> bool
-        ensures up { result ≡ true → HasRow self.now.theta m.now }
-        ensures down { result ≡ false → HasRow self.now.theta m.now → ⊥ }
-    {
-        has_row(self.theta, m)
     }
 
     // Whether feeder p has turned in the open step.

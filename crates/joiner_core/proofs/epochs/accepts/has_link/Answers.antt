@@ -4,7 +4,7 @@ use Rattle.epoch_tags.specs.Links.{HasLink}
 use Rattle.epoch_tags.specs.declared.actor.Actor.{Actor}
 use Rattle.epoch_tags.specs.declared.actor.Actor.TheVariants.{Joiner as Joiner'}
 use Rattle.joiner_core.proofs.CallerFacts.{no-id, feeder-link, joiner-link}
-use Rattle.joiner_core.proofs.epochs.links.has_link.Goals as goal
+use Rattle.joiner_core.proofs.epochs.accepts.has_link.Goals as goal
 
 pub returns-then-id-count-clause-down : goal.returns-then-id-count-clause-down
 returns-then-id-count-clause-down c is link =
