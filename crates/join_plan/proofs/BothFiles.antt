@@ -36,17 +36,17 @@ module _ (x y : Result Table Refusal) (table_r : Table) (good : x ≡ Ok table_r
 pub table_refused : (x : Result Table Refusal) (table : Table) (why : Refusal) → x ≡ Ok table → x ≡ refused_file why → ⊥
 table_refused x table why good e = let q : Ok table ≡ refused_file why = sym good ∙ e in cc q
 
--- of R's file a table was seen, and of S's this
-pub seen_behind : (told : Told) (middle spot : Spot) (name_r name_s : List ℕ) (x y : Result Table Refusal)
-    (table : Table) → x ≡ Ok table
-    → ((x ≡ refused_file refusals.Read → ⊥) → (x ≡ refused_file refusals.Memory → ⊥)
-    → IsSeen told middle (source_r name_r) x)
-    → IsSeen told spot (source_s name_s) y
-    → TablesSeen told spot name_r name_s (then_of y (λ table_s. Ok (record { of_r = table; of_s = table_s })))
-seen_behind told middle spot name_r name_s x y table good seen_r seen_s =
-    seen_both told middle spot name_r name_s table y
-    (subst (IsSeen told middle (source_r name_r)) good
-    (seen_r (table_refused x table refusals.Read good) (table_refused x table refusals.Memory good))) seen_s
+module _ (told : Told) (middle spot : Spot) (name_r name_s : List ℕ) where
+  -- of R's file a table was seen, and of S's this
+  pub seen_behind : (x y : Result Table Refusal) (table : Table) → x ≡ Ok table
+      → ((x ≡ refused_file refusals.Read → ⊥) → (x ≡ refused_file refusals.Memory → ⊥)
+      → IsSeen told middle (source_r name_r) x)
+      → IsSeen told spot (source_s name_s) y
+      → TablesSeen told spot name_r name_s (then_of y (λ table_s. Ok (record { of_r = table; of_s = table_s })))
+  seen_behind x y table good seen_r seen_s =
+      seen_both told middle spot name_r name_s table y
+      (subst (IsSeen told middle (source_r name_r)) good
+      (seen_r (table_refused x table refusals.Read good) (table_refused x table refusals.Memory good))) seen_s
 
 -- a refusal is S's, or want of memory
 pub both-refused : (x y : Result Table Refusal) (table_r : Table) → x ≡ Ok table_r → (result : Result Tables Refusal)

@@ -51,17 +51,17 @@ Follows told spot source seen more result r =
     MatchResult r (λ all. SeenFrom told (Some (source.name, length seen)) spot all more result)
     (λ refusal. (spot ≡ Some (source.name, length seen)) × (result ≡ Err refusal))
 
--- a file whose rows stand behind the others, and then more
-pub seen_next : (told : Told) (last middle spot : Spot) (waves all : InWaves) (source : Source) (more : List Source)
-    (result : Result InWaves Refusal)
-    → IsNextSeen told middle source waves (Ok all) → SeenFrom told middle spot all more result
-    → SeenFrom told last spot waves (source ∷ more) result
-seen_next told last middle spot waves all source more result is after = (
-  is.seen,
-  is.first,
-  subst (Follows told spot source is.seen more result) is.answer
-      (subst (λ s. SeenFrom told s spot all more result) is.place after),
-)
+module _ (told : Told) (last middle spot : Spot) where
+  -- a file whose rows stand behind the others, and then more
+  pub seen_next : (waves all : InWaves) (source : Source) (more : List Source) (result : Result InWaves Refusal)
+      → IsNextSeen told middle source waves (Ok all) → SeenFrom told middle spot all more result
+      → SeenFrom told last spot waves (source ∷ more) result
+  seen_next waves all source more result is after = (
+    is.seen,
+    is.first,
+    subst (Follows told spot source is.seen more result) is.answer
+        (subst (λ s. SeenFrom told s spot all more result) is.place after),
+  )
 
 -- a file that is refused, whatever comes behind it
 pub seen_refused : (told : Told) (last spot : Spot) (waves : InWaves) (source : Source) (more : List Source)

@@ -90,17 +90,18 @@ table-not bytes r e t h = elim t [
   | inr f ↦ inr (only-form (records_of bytes) e (sym f ∙ h))
 ]
 
--- of a told file that was read whole the answer is the file's own, or a want of memory
-pub bytes-answer : (told : Told) (name : List ℕ) (old new : ℕ) (spot : Spot) (bytes : List ℕ)
-    (r : Result Table TableFault) → WholeOk told name old new spot bytes → TableIn bytes r
-    → (file : List ℕ) → Tells told name file → (r ≡ Err fault.Memory) ⊎ (r ≡ table_of file)
-bytes-answer told name old new spot bytes r w t file tells = elim t [
-  | inl m ↦ inl m
-  | inr f ↦
-      let same = w.4 file tells in
-      let few : length file ≤ 2 ^ 24 = omega (arith, w.3, ap length same) in
-      inr (f ∙ ap (λ x. table_of_records (records_of x)) same ∙ sym (short-table file few))
-]
+module _ (told : Told) (name : List ℕ) (old new : ℕ) (spot : Spot) where
+  -- of a told file that was read whole the answer is the file's own, or a want of memory
+  pub bytes-answer : (bytes : List ℕ) (r : Result Table TableFault)
+      → WholeOk told name old new spot bytes → TableIn bytes r
+      → (file : List ℕ) → Tells told name file → (r ≡ Err fault.Memory) ⊎ (r ≡ table_of file)
+  bytes-answer bytes r w t file tells = elim t [
+    | inl m ↦ inl m
+    | inr f ↦
+        let same = w.4 file tells in
+        let few : length file ≤ 2 ^ 24 = omega (arith, w.3, ap length same) in
+        inr (f ∙ ap (λ x. table_of_records (records_of x)) same ∙ sym (short-table file few))
+  ]
 
 -- after a whole read the answer is a failed read just if a call failed or there is no such file, so never
 pub bytes-read : (told : Told) (name : List ℕ) (old new : ℕ) (spot : Spot) (bytes : List ℕ)

@@ -21,20 +21,21 @@ pub record AreJudged (text : List ℕ) (width count : ℕ) (state : State) (left
   pub counted : count ≡ length done
   pub few : length done ≤ 262144
 
--- one more row of the width
-pub judged-more : (text : List ℕ) (width count : ℕ) (state after : State) (left rest : List ℕ) (row : List (List ℕ))
-    (are : AreJudged text width count state left)
-    → Reached default_config st.StartRecord text ((are.names ∷ are.done) ++ (row ∷ [])) after rest
-    → count ≢ 262144 → length row ≡ width → AreJudged text width (count + 1) after rest
-judged-more text width count state after left rest row are more below same = record {
-  names = are.names;
-  done = are.done ++ (row ∷ []);
-  named = are.named;
-  reached = more;
-  wide = wide-more (length are.names) are.done row are.wide (same ∙ are.named);
-  counted = omega (arith, length-append are.done (row ∷ []), are.counted);
-  few = omega (arith, length-append are.done (row ∷ []), are.few, are.counted, below);
-}
+module _ (text : List ℕ) (width count : ℕ) (state : State) where
+  -- one more row of the width
+  pub judged-more : (after : State) (left rest : List ℕ) (row : List (List ℕ))
+      (are : AreJudged text width count state left)
+      → Reached default_config st.StartRecord text ((are.names ∷ are.done) ++ (row ∷ [])) after rest
+      → count ≢ 262144 → length row ≡ width → AreJudged text width (count + 1) after rest
+  judged-more after left rest row are more below same = record {
+    names = are.names;
+    done = are.done ++ (row ∷ []);
+    named = are.named;
+    reached = more;
+    wide = wide-more (length are.names) are.done row are.wide (same ∙ are.named);
+    counted = omega (arith, length-append are.done (row ∷ []), are.counted);
+    few = omega (arith, length-append are.done (row ∷ []), are.few, are.counted, below);
+  }
 
 -- no more row: they are a table
 pub judged-end : (text : List ℕ) (width count : ℕ) (state : State) (left : List ℕ)
@@ -45,24 +46,25 @@ judged-end text width count state left are all = (
   sym (answers-good (records default_config text) are.names are.done (map cells_of are.done) all refl are.wide are.few),
 )
 
--- a row past the limit
-pub judged-long : (text : List ℕ) (width count : ℕ) (state after : State) (left rest : List ℕ) (row : List (List ℕ))
-    (are : AreJudged text width count state left)
-    → Reached default_config st.StartRecord text ((are.names ∷ are.done) ++ (row ∷ [])) after rest
-    → count ≡ 262144 → table_of_records (records default_config text) ≡ Err fault.TooMany
-judged-long text width count state after left rest row are more many =
-    let (n, front) = records-begin text rest after ((are.names ∷ are.done) ++ (row ∷ [])) more in
-    sym (answers-long (records default_config text) are.names row are.done _ front are.wide
-    (sym are.counted ∙ many))
+module _ (text : List ℕ) (width count : ℕ) (state : State) where
+  -- a row past the limit
+  pub judged-long : (after : State) (left rest : List ℕ) (row : List (List ℕ))
+      (are : AreJudged text width count state left)
+      → Reached default_config st.StartRecord text ((are.names ∷ are.done) ++ (row ∷ [])) after rest
+      → count ≡ 262144 → table_of_records (records default_config text) ≡ Err fault.TooMany
+  judged-long after left rest row are more many =
+      let (n, front) = records-begin text rest after ((are.names ∷ are.done) ++ (row ∷ [])) more in
+      sym (answers-long (records default_config text) are.names row are.done _ front are.wide
+      (sym are.counted ∙ many))
 
--- a row of another width
-pub judged-narrow : (text : List ℕ) (width count : ℕ) (state after : State) (left rest : List ℕ) (row : List (List ℕ))
-    (are : AreJudged text width count state left)
-    → Reached default_config st.StartRecord text ((are.names ∷ are.done) ++ (row ∷ [])) after rest
-    → count ≢ 262144 → length row ≢ width
-    → table_of_records (records default_config text) ≡ Err (fault.Width (count + 1) (length row))
-judged-narrow text width count state after left rest row are more below other =
-    let (n, front) = records-begin text rest after ((are.names ∷ are.done) ++ (row ∷ [])) more in
-    let fits : length are.done < 262144 = omega (arith, are.few, are.counted, below) in
-    rw are.counted (sym (answers-narrow (records default_config text) are.names row are.done _ front are.wide fits
-    (λ e. other (e ∙ sym are.named))))
+  -- a row of another width
+  pub judged-narrow : (after : State) (left rest : List ℕ) (row : List (List ℕ))
+      (are : AreJudged text width count state left)
+      → Reached default_config st.StartRecord text ((are.names ∷ are.done) ++ (row ∷ [])) after rest
+      → count ≢ 262144 → length row ≢ width
+      → table_of_records (records default_config text) ≡ Err (fault.Width (count + 1) (length row))
+  judged-narrow after left rest row are more below other =
+      let (n, front) = records-begin text rest after ((are.names ∷ are.done) ++ (row ∷ [])) more in
+      let fits : length are.done < 262144 = omega (arith, are.few, are.counted, below) in
+      rw are.counted (sym (answers-narrow (records default_config text) are.names row are.done _ front are.wide fits
+      (λ e. other (e ∙ sym are.named))))

@@ -21,4 +21,5 @@ module _ (old begun standing worked : List SeatView) where
       → AllAdvance old new
   all_went new is long stepped works none alike =
       all_advance_after old begun new long stepped
-      (all_advance begun worked new (works.len ∙ ap length is) (subst (λ xs. AllWork xs worked) is works.each) none alike)
+      (all_advance begun worked new (works.len ∙ ap length is)
+      (subst (λ xs. AllWork xs worked) is works.each) none alike)

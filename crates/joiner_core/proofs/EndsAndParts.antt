@@ -66,8 +66,7 @@ module _ (s : JoinerStart) (t : Taken) (lists : JoinerLists) (waiting : List Pai
       → IsOpen s (took_of_feeder p End t) lists waiting (record m { ended = m'.ended }) o
   open-ended o is =
       let within : p < length m.ended = let n = is.ended_count in omega arith in
-      let after = open-end s t lists waiting (flag_at o.turned) (flag_at m.ended)
-      is.all_turned o.partner_ended m.store.tuples o.store.tuples is.new is.cur is.past p low going is.stands in
+      let after = open-end p low going is.stands in
       record {
         new = is.new;
         cur = is.cur;

@@ -94,7 +94,7 @@ module _ (s : JoinerStart) (t : Taken) (lists : JoinerLists) (waiting : List Pai
       → IsClosed s (took_of_feeder p End t) lists waiting (record m { ended = m'.ended })
   closed-end is =
       let within : p < length m.ended = let n = is.ended_count in omega arith in
-      let after = settled-end s t lists waiting (flag_at m.ended) m.store.tuples is.cur is.past p low going is.stands in
+      let after = settled-end p low going is.stands in
       record {
         cur = is.cur;
         past = is.past;

@@ -32,8 +32,7 @@ module _ (s : JoinerStart) (t : Taken) (lists : JoinerLists) (waiting : List Pai
       let now : epoch ≡ s.epoch + length is.past + 1 = omega arith in
       let near' : AreNeighbours is.cur.shift shift = subst (λ (b : ℕ). AreNeighbours b shift) is.shift near in
       let within' : shift ≤ s.k = let k = fixed.k in omega arith in
-      let after = opened-step s t lists waiting (flag_at m.ended)
-      m.store.tuples is.cur is.past shift within' near' is.stands in
+      let after = opened-step shift within' near' is.stands in
       record {
         new = new_step shift;
         cur = is.cur;

@@ -38,9 +38,7 @@ pub open-part : (s : JoinerStart) (t : Taken) (lists : JoinerLists) (waiting : L
 open-part s t lists waiting m o x fixed is =
     let at = is.step_epoch in
     let next : o.epoch ≡ s.epoch + length (is.cur ∷ is.past) = omega arith in
-    let after = open-moved s t lists waiting (flag_at o.turned) (flag_at m.ended)
-    is.all_turned o.partner_ended m.store.tuples o.store.tuples is.new is.cur is.past o.epoch x is.step_epoch
-    is.stands in
+    let after = open-moved o.epoch x is.step_epoch is.stands in
     record {
       new = with_came x is.new;
       cur = is.cur;
@@ -74,8 +72,7 @@ pub open-part_end : (s : JoinerStart) (t : Taken) (lists : JoinerLists) (waiting
 open-part_end s t lists waiting m o fixed going is =
     let before : StandsOpen s t lists waiting (flag_at o.turned) (flag_at m.ended)
     is.all_turned false m.store.tuples o.store.tuples is.new is.cur is.past = rw going at is.stands in
-    let after = open-moved_end s t lists waiting (flag_at o.turned) (flag_at m.ended)
-    is.all_turned m.store.tuples o.store.tuples is.new is.cur is.past o.epoch is.step_epoch before in
+    let after = open-moved_end o.epoch is.step_epoch before in
     record {
       new = is.new;
       cur = is.cur;

@@ -25,8 +25,7 @@ open-settled s t lists waiting m o fixed part is turned =
     true o.partner_ended m.store.tuples o.store.tuples is.new is.cur is.past = rw turned at is.stands in
     let before' : StandsOpen s t lists waiting (flag_at o.turned) (flag_at m.ended)
     true true m.store.tuples o.store.tuples is.new is.cur is.past = rw part at before in
-    let after = settled-step s t lists waiting (flag_at o.turned) (flag_at m.ended)
-    m.store.tuples o.store.tuples is.new is.cur is.past (is.all turned) before' in
+    let after = settled-step (is.all turned) before' in
     let at = is.step_epoch in
     let here = stored s.k s.id (is.cur ∷ is.past) in
     let same : count_by (is_of (exchanged_side m.shift o.shift)) m.store.tuples

@@ -45,8 +45,7 @@ module _ (s : JoinerStart) (t : Taken) (lists : JoinerLists) (waiting : List Pai
           append-nil (probed (does_hold m.theta) all_tuples x m.store.tuples),
           fixed.matches,
         ) (settled-placed s _ lists _ _ m.store.tuples x _ is.past
-            (settled-tup s t lists waiting (flag_at m.ended) m.store.tuples is.cur is.past p x low going (omega arith)
-            is.stands));
+            (settled-tup p x low going (omega arith) is.stands));
         epoch = is.epoch;
         shift = is.shift;
         ended_count = is.ended_count;
@@ -70,8 +69,7 @@ module _ (s : JoinerStart) (t : Taken) (lists : JoinerLists) (waiting : List Pai
       false o.partner_ended m.store.tuples o.store.tuples is.new is.cur is.past = rw not_all at is.stands in
       let next : s.epoch + length is.past + 1 ≡ s.epoch + length (is.cur ∷ is.past) = omega arith in
       let epoch : o.epoch ≡ s.epoch + length (is.cur ∷ is.past) = is.step_epoch ∙ next in
-      let after = open-late s t lists waiting (flag_at o.turned) (flag_at m.ended)
-      o.partner_ended m.store.tuples o.store.tuples is.new is.cur is.past p x low going still (omega arith) before in
+      let after = open-late p x low going still (omega arith) before in
       record {
         new = is.new;
         cur = with_arrived x is.cur;
@@ -147,9 +145,7 @@ module _ (s : JoinerStart) (t : Taken) (lists : JoinerLists) (waiting : List Pai
         past = is.past;
         all_turned = is.all_turned;
         stands = rw fixed.matches (open-placed s _ _ _ _ _ _ _ m.store.tuples o.store.tuples x _ is.cur is.past
-            (open-tup s t lists waiting (flag_at o.turned) (flag_at m.ended)
-            is.all_turned o.partner_ended m.store.tuples o.store.tuples is.new is.cur is.past p x low going has
-            (omega arith) is.stands));
+            (open-tup p x low going has (omega arith) is.stands));
         epoch = is.epoch;
         shift = is.shift;
         step_epoch = is.step_epoch;

@@ -38,7 +38,7 @@ module _ (s : JoinerStart) (t : Taken) (lists : JoinerLists) (waiting : List Pai
       → StandsOpen s t (with_sent lists (cond last (moved_end_post (partner_in_step cur.shift new.shift s.id) (s.epoch +
       length past + 1) ∷ []) [])) waiting turned ended last part_ended a b new cur past
   by_last true is =
-      all-turned s t lists waiting turned ended part_ended a b new cur past is
+      all-turned is
   by_last false is =
       subst (λ (ls : JoinerLists). StandsOpen s t ls waiting turned ended false part_ended a b new cur past)
       (sym (with_sent-none lists)) is
@@ -59,9 +59,7 @@ module _ (s : JoinerStart) (t : Taken) (lists : JoinerLists) (waiting : List Pai
       let before : StandsOpen s t lists waiting (flag_at o.turned) (flag_at m.ended)
       false o.partner_ended m.store.tuples o.store.tuples is.new is.cur is.past = rw not_all at is.stands in
       let within : p < length o.turned = let n = is.count in omega arith in
-      let turned = open-turn s t lists waiting (flag_at o.turned) (flag_at m.ended)
-      o.partner_ended m.store.tuples o.store.tuples is.new is.cur is.past p epoch shift low going still
-      (now ∙ is.step_epoch) (same ∙ is.step_shift) before in
+      let turned = open-turn p epoch shift low going still (now ∙ is.step_epoch) (same ∙ is.step_shift) before in
       let known : StandsOpen s (took_of_feeder p (Turn epoch shift) t) lists waiting (flag_at o'.turned)
       (flag_at m.ended)
       false o.partner_ended m.store.tuples o.store.tuples is.new is.cur is.past =

@@ -175,28 +175,28 @@ probed_at-bag R m names x xs ys same = SameBag-map (pair_of x)
 probed_at-bag S m names x xs ys same = SameBag-map (λ r. pair_of r x)
     (SameBag-filter (λ r. is_of R r && (m r x && names r)) same)
 
--- the pairs of a store that has one tuple more: those before, and what the probe finds in a list that is the store as a
--- bag
-pub pairs-more : (test m : Tuple → Tuple → Bool) (names : Tuple → Bool) (x : Tuple) (P : Tuple → Type 0)
-    → Agrees test m names x P
-    → (xs ys zs : List Tuple) → AllByRecursion P ys → SameBag zs (x ∷ ys) → SameBag xs ys
-    → SameBag (pairs_by test zs zs) (pairs_by test ys ys ++ probed m names x xs)
-pairs-more test m names x P agrees xs ys zs all more same = record {
-  sums = λ f.
-      let w = weight f test in
-      let whole : sum_by f (pairs_by test zs zs) ≡ double w zs zs = sum-pairs f test zs zs in
-      let moved : double w zs zs ≡ double w (x ∷ ys) (x ∷ ys) = double-bag w zs (x ∷ ys) zs (x ∷ ys) more more in
-      let split : double w (x ∷ ys) (x ∷ ys) ≡ double w ys ys + (sum_by (w x) ys + sum_by (λ r. w r x) ys) =
-      double-add w x ys (not_both f test x) in
-      let before : sum_by f (pairs_by test ys ys) ≡ double w ys ys = sum-pairs f test ys ys in
-      let found : sum_by (w x) ys + sum_by (λ r. w r x) ys ≡ sum_by f (probed m names x ys) =
-      sum-agrees f test m names x P agrees ys all in
-      let as_bag : sum_by f (probed m names x xs) ≡ sum_by f (probed m names x ys) =
-      (probed_at-bag x.side m names x xs ys same).sums f in
-      let joined : sum_by f (pairs_by test ys ys ++ probed m names x xs) ≡ sum_by f (pairs_by test ys ys)
-      + sum_by f (probed m names x xs) = sum_by-append f (pairs_by test ys ys) (probed m names x xs) in
-      rw joined (omega arith);
-}
+module _ (test m : Tuple → Tuple → Bool) (names : Tuple → Bool) (x : Tuple) (P : Tuple → Type 0) where
+  -- the pairs of a store that has one tuple more: those before, and what the probe finds in a list that is the store as
+  -- a bag
+  pub pairs-more : Agrees test m names x P
+      → (xs ys zs : List Tuple) → AllByRecursion P ys → SameBag zs (x ∷ ys) → SameBag xs ys
+      → SameBag (pairs_by test zs zs) (pairs_by test ys ys ++ probed m names x xs)
+  pairs-more agrees xs ys zs all more same = record {
+    sums = λ f.
+        let w = weight f test in
+        let whole : sum_by f (pairs_by test zs zs) ≡ double w zs zs = sum-pairs f test zs zs in
+        let moved : double w zs zs ≡ double w (x ∷ ys) (x ∷ ys) = double-bag w zs (x ∷ ys) zs (x ∷ ys) more more in
+        let split : double w (x ∷ ys) (x ∷ ys) ≡ double w ys ys + (sum_by (w x) ys + sum_by (λ r. w r x) ys) =
+        double-add w x ys (not_both f test x) in
+        let before : sum_by f (pairs_by test ys ys) ≡ double w ys ys = sum-pairs f test ys ys in
+        let found : sum_by (w x) ys + sum_by (λ r. w r x) ys ≡ sum_by f (probed m names x ys) =
+        sum-agrees f test m names x P agrees ys all in
+        let as_bag : sum_by f (probed m names x xs) ≡ sum_by f (probed m names x ys) =
+        (probed_at-bag x.side m names x xs ys same).sums f in
+        let joined : sum_by f (pairs_by test ys ys ++ probed m names x xs) ≡ sum_by f (pairs_by test ys ys)
+        + sum_by f (probed m names x xs) = sum_by-append f (pairs_by test ys ys) (probed m names x xs) in
+        rw joined (omega arith);
+  }
 
 -- the pairs of two lists that are one bag
 pub pairs-bag : (test : Tuple → Tuple → Bool) (xs ys : List Tuple) → SameBag xs ys
@@ -254,51 +254,51 @@ any_all (x ∷ xs) = (tt, any_all xs)
 
 -- ---- all pairs found, as one more tuple is taken
 
--- a tuple of the latest epoch
-pub found-arrived : (m : Tuple → Tuple → Bool) (epoch k id : ℕ) (x : Tuple) (step : Step) (past : List Step)
-    (a : List Tuple)
-    → x.stamp ≡ epoch + length past → AllUpTo (epoch + length past) (stored k id (step ∷ past))
-    → SameBag a (stored k id (step ∷ past))
-    → SameBag (all_found m epoch k id (with_arrived x step ∷ past))
-    (all_found m epoch k id (step ∷ past) ++ probed m all_tuples x a)
-found-arrived m epoch k id x step past a stamp up_to same =
-    let here = pairs-more (counts_at m epoch past) m all_tuples x _ (agrees-all m epoch past x stamp) a
-    (stored k id (step ∷ past)) (stored k id (with_arrived x step ∷ past)) up_to (stored-arrived k id x step past)
-    same in
-    subst (λ (zs : List Pair). SameBag (all_found m epoch k id (with_arrived x step ∷ past)) zs)
-    (sym (append_assoc (all_found m epoch k id past) (pairs_by (counts_at m epoch past) (stored k id (step ∷ past))
-    (stored k id (step ∷ past))) (probed m all_tuples x a)))
-    (SameBag-append (SameBag-refl (all_found m epoch k id past)) here)
+module _ (m : Tuple → Tuple → Bool) (epoch k id : ℕ) (x : Tuple) where
+  -- a tuple of the latest epoch
+  pub found-arrived : (step : Step) (past : List Step) (a : List Tuple)
+      → x.stamp ≡ epoch + length past → AllUpTo (epoch + length past) (stored k id (step ∷ past))
+      → SameBag a (stored k id (step ∷ past))
+      → SameBag (all_found m epoch k id (with_arrived x step ∷ past))
+      (all_found m epoch k id (step ∷ past) ++ probed m all_tuples x a)
+  found-arrived step past a stamp up_to same =
+      let here = pairs-more (counts_at m epoch past) m all_tuples x _ (agrees-all m epoch past x stamp) a
+      (stored k id (step ∷ past)) (stored k id (with_arrived x step ∷ past)) up_to (stored-arrived k id x step past)
+      same in
+      subst (λ (zs : List Pair). SameBag (all_found m epoch k id (with_arrived x step ∷ past)) zs)
+      (sym (append_assoc (all_found m epoch k id past) (pairs_by (counts_at m epoch past) (stored k id (step ∷ past))
+      (stored k id (step ∷ past))) (probed m all_tuples x a)))
+      (SameBag-append (SameBag-refl (all_found m epoch k id past)) here)
 
--- a tuple that the partner moved here, older than the open epoch
-pub found-came : (m : Tuple → Tuple → Bool) (epoch k id : ℕ) (x : Tuple) (step before : Step) (past : List Step)
-    (b : List Tuple)
-    → x.stamp < epoch + length (before ∷ past) → SameBag b (stored k id (step ∷ (before ∷ past)))
-    → SameBag (all_found m epoch k id (with_came x step ∷ (before ∷ past)))
-    (all_found m epoch k id (step ∷ (before ∷ past)) ++ probed m (only_stamp (epoch + length (before ∷ past))) x b)
-found-came m epoch k id x step before past b low same =
-    let h = before ∷ past in
-    let here = pairs-more (counts_at m epoch h) m (only_stamp (epoch + length h)) x _
-    (agrees-only m epoch before past x low) b (stored k id (step ∷ h)) (stored k id (with_came x step ∷ h))
-    (any_all (stored k id (step ∷ h))) (stored-came k id x step h) same in
-    subst (λ (zs : List Pair). SameBag (all_found m epoch k id (with_came x step ∷ h)) zs)
-    (sym (append_assoc (all_found m epoch k id h) (pairs_by (counts_at m epoch h) (stored k id (step ∷ h))
-    (stored k id (step ∷ h))) (probed m (only_stamp (epoch + length h)) x b)))
-    (SameBag-append (SameBag-refl (all_found m epoch k id h)) here)
+  -- a tuple that the partner moved here, older than the open epoch
+  pub found-came : (step before : Step) (past : List Step) (b : List Tuple)
+      → x.stamp < epoch + length (before ∷ past) → SameBag b (stored k id (step ∷ (before ∷ past)))
+      → SameBag (all_found m epoch k id (with_came x step ∷ (before ∷ past)))
+      (all_found m epoch k id (step ∷ (before ∷ past)) ++ probed m (only_stamp (epoch + length (before ∷ past))) x b)
+  found-came step before past b low same =
+      let h = before ∷ past in
+      let here = pairs-more (counts_at m epoch h) m (only_stamp (epoch + length h)) x _
+      (agrees-only m epoch before past x low) b (stored k id (step ∷ h)) (stored k id (with_came x step ∷ h))
+      (any_all (stored k id (step ∷ h))) (stored-came k id x step h) same in
+      subst (λ (zs : List Pair). SameBag (all_found m epoch k id (with_came x step ∷ h)) zs)
+      (sym (append_assoc (all_found m epoch k id h) (pairs_by (counts_at m epoch h) (stored k id (step ∷ h))
+      (stored k id (step ∷ h))) (probed m (only_stamp (epoch + length h)) x b)))
+      (SameBag-append (SameBag-refl (all_found m epoch k id h)) here)
 
--- the pairs of the open epoch, as one more is in the store before
-pairs-kept : (m : Tuple → Tuple → Bool) (epoch : ℕ) (before : Step) (past : List Step) (x : Tuple)
-    (b ys zs : List Tuple) → x.stamp < epoch + length (before ∷ past) → SameBag b ys
-    → (kept : Bool) → SameBag zs (if_kept kept x ys)
-    → SameBag (pairs_by (counts_at m epoch (before ∷ past)) zs zs) (pairs_by (counts_at m epoch (before ∷ past)) ys ys
-    ++ cond kept (probed m (only_stamp (epoch + length (before ∷ past))) x b) [])
-pairs-kept m epoch before past x b ys zs low same true more =
-    pairs-more (counts_at m epoch (before ∷ past)) m (only_stamp (epoch + length (before ∷ past))) x _
-    (agrees-only m epoch before past x low) b ys zs (any_all ys) more same
-pairs-kept m epoch before past x b ys zs low same false more =
-    let test = counts_at m epoch (before ∷ past) in
-    subst (λ (ps : List Pair). SameBag (pairs_by test zs zs) ps) (sym (append-nil (pairs_by test ys ys)))
-    (pairs-bag test zs ys more)
+module _ (m : Tuple → Tuple → Bool) (epoch : ℕ) where
+  -- the pairs of the open epoch, as one more is in the store before
+  pairs-kept : (before : Step) (past : List Step) (x : Tuple) (b ys zs : List Tuple)
+      → x.stamp < epoch + length (before ∷ past) → SameBag b ys
+      → (kept : Bool) → SameBag zs (if_kept kept x ys)
+      → SameBag (pairs_by (counts_at m epoch (before ∷ past)) zs zs) (pairs_by (counts_at m epoch (before ∷ past)) ys ys
+      ++ cond kept (probed m (only_stamp (epoch + length (before ∷ past))) x b) [])
+  pairs-kept before past x b ys zs low same true more =
+      pairs-more (counts_at m epoch (before ∷ past)) m (only_stamp (epoch + length (before ∷ past))) x _
+      (agrees-only m epoch before past x low) b ys zs (any_all ys) more same
+  pairs-kept before past x b ys zs low same false more =
+      let test = counts_at m epoch (before ∷ past) in
+      subst (λ (ps : List Pair). SameBag (pairs_by test zs zs) ps) (sym (append-nil (pairs_by test ys ys)))
+      (pairs-bag test zs ys more)
 
 cross-append : {X : Type 0} (us vs ps qs : List X) → SameBag ((us ++ ps) ++ (vs ++ qs)) ((us ++ vs) ++ (ps ++ qs))
 cross-append us vs ps qs = record {
@@ -313,25 +313,25 @@ cross-append us vs ps qs = record {
       ) (omega arith);
 }
 
--- a late tuple of the epoch before, under an open step
-pub found-under : (m : Tuple → Tuple → Bool) (epoch k id : ℕ) (x : Tuple) (new cur : Step) (past : List Step)
-    (a b : List Tuple)
-    → x.stamp ≡ epoch + length past → AllUpTo (epoch + length past) (stored k id (cur ∷ past))
-    → SameBag a (stored k id (cur ∷ past)) → SameBag b (stored k id (new ∷ (cur ∷ past)))
-    → SameBag (all_found m epoch k id (new ∷ (with_arrived x cur ∷ past)))
-    (all_found m epoch k id (new ∷ (cur ∷ past)) ++ (probed m all_tuples x a
-    ++ cond (holds k new.shift id x) (probed m (only_stamp (epoch + length (cur ∷ past))) x b) []))
-found-under m epoch k id x new cur past a b stamp up_to same_a same_b =
-    let low : x.stamp < epoch + length (cur ∷ past) = omega arith in
-    let ys = stored k id (new ∷ (cur ∷ past)) in
-    let zs = stored k id (new ∷ (with_arrived x cur ∷ past)) in
-    let below = found-arrived m epoch k id x cur past a stamp up_to same_a in
-    let above = pairs-kept m epoch cur past x b ys zs low same_b (holds k new.shift id x)
-    (stored-under k id x new cur past) in
-    SameBag-trans (SameBag-append below above)
-    (cross-append (all_found m epoch k id (cur ∷ past)) (pairs_by (counts_at m epoch (cur ∷ past)) ys ys)
-    (probed m all_tuples x a) (cond (holds k new.shift id x)
-    (probed m (only_stamp (epoch + length (cur ∷ past))) x b) []))
+module _ (m : Tuple → Tuple → Bool) (epoch k id : ℕ) (x : Tuple) where
+  -- a late tuple of the epoch before, under an open step
+  pub found-under : (new cur : Step) (past : List Step) (a b : List Tuple)
+      → x.stamp ≡ epoch + length past → AllUpTo (epoch + length past) (stored k id (cur ∷ past))
+      → SameBag a (stored k id (cur ∷ past)) → SameBag b (stored k id (new ∷ (cur ∷ past)))
+      → SameBag (all_found m epoch k id (new ∷ (with_arrived x cur ∷ past)))
+      (all_found m epoch k id (new ∷ (cur ∷ past)) ++ (probed m all_tuples x a
+      ++ cond (holds k new.shift id x) (probed m (only_stamp (epoch + length (cur ∷ past))) x b) []))
+  found-under new cur past a b stamp up_to same_a same_b =
+      let low : x.stamp < epoch + length (cur ∷ past) = omega arith in
+      let ys = stored k id (new ∷ (cur ∷ past)) in
+      let zs = stored k id (new ∷ (with_arrived x cur ∷ past)) in
+      let below = found-arrived m epoch k id x cur past a stamp up_to same_a in
+      let above = pairs-kept m epoch cur past x b ys zs low same_b (holds k new.shift id x)
+      (stored-under k id x new cur past) in
+      SameBag-trans (SameBag-append below above)
+      (cross-append (all_found m epoch k id (cur ∷ past)) (pairs_by (counts_at m epoch (cur ∷ past)) ys ys)
+      (probed m all_tuples x a) (cond (holds k new.shift id x)
+      (probed m (only_stamp (epoch + length (cur ∷ past))) x b) []))
 
 -- a step is opened: no pair is of its epoch yet
 none-new : (f : Pair → ℕ) (m : Tuple → Tuple → Bool) (epoch : ℕ) (before : Step) (past : List Step) (r q : Tuple)

@@ -41,19 +41,20 @@ gather-none f (suc n) none =
     let rest : gather n f ≡ [] = gather-none f n (λ i low. none i (omega arith)) in
     rw (here, rest) refl
 
--- the feeders, one of which sent a message more
-pub feeders-grown : (s : JoinerStart) (t : Taken) (done : ℕ) (turned ended turned' ended' : ℕ
-    → Bool) (p : ℕ) (m : ToJoiner)
-    → ((q : ℕ) → q ≢ p → (turned' q ≡ turned q) × (ended' q ≡ ended q))
-    → (IsOfFeeder s.epoch t.shift_at done (turned p) (ended p) (t.from_feeder p)
-    → IsOfFeeder s.epoch t.shift_at done (turned' p) (ended' p) (t.from_feeder p ++ m ∷ []))
-    → p < s.feeders
-    → ((q : ℕ) → q < s.feeders → IsOfFeeder s.epoch t.shift_at done (turned q) (ended q) (t.from_feeder q))
-    → (q : ℕ) → q < s.feeders → IsOfFeeder s.epoch t.shift_at done (turned' q) (ended' q) (grown p m t.from_feeder q)
-feeders-grown s t done turned ended turned' ended' p m others here low all q less = elim (cases_eq q p) [
-  | inl is ↦ rw (is, grown-same p m t.from_feeder) (here (all p low))
-  | inr differ ↦ let same = others q differ in rw (grown-other p m t.from_feeder q differ, same.0, same.1) (all q less)
-]
+module _ (s : JoinerStart) (t : Taken) (done : ℕ) (turned ended turned' ended' : ℕ → Bool) where
+  -- the feeders, one of which sent a message more
+  pub feeders-grown : (p : ℕ) (m : ToJoiner) → ((q : ℕ) → q ≢ p → (turned' q ≡ turned q) × (ended' q ≡ ended q))
+      → (IsOfFeeder s.epoch t.shift_at done (turned p) (ended p) (t.from_feeder p)
+      → IsOfFeeder s.epoch t.shift_at done (turned' p) (ended' p) (t.from_feeder p ++ m ∷ []))
+      → p < s.feeders
+      → ((q : ℕ) → q < s.feeders → IsOfFeeder s.epoch t.shift_at done (turned q) (ended q) (t.from_feeder q))
+      → (q : ℕ) → q < s.feeders → IsOfFeeder s.epoch t.shift_at done (turned' q) (ended' q) (grown p m t.from_feeder q)
+  feeders-grown p m others here low all q less = elim (cases_eq q p) [
+    | inl is ↦ rw (is, grown-same p m t.from_feeder) (here (all p low))
+    | inr differ ↦
+        let same = others q differ in
+        rw (grown-other p m t.from_feeder q differ, same.0, same.1) (all q less)
+  ]
 
 -- what partners ended doesn't depend on feeders
 pub parts-same : (s : JoinerStart) (t : Taken) (ended : Bool) (steps : List Step) (m : ToJoiner) (p : ℕ)

@@ -144,13 +144,14 @@ taken-grown s f steps j m here is q = elim (cases_eq q j) [
   | inr differ ↦ rw (grown-other j m f q differ) (is q)
 ]
 
--- and with a tuple that the open step's partner moves here in that step
-pub taken-came : (s : JoinerStart) (f : ℕ → List ToJoiner) (x : Tuple) (new cur : Step) (past : List Step) (j epoch : ℕ)
-    → epoch ≡ s.epoch + length past + 1 → j ≡ partner_in_step cur.shift new.shift s.id
-    → TakenParts s (new ∷ (cur ∷ past)) f → TakenParts s (with_came x new ∷ (cur ∷ past)) (grown j (Moved epoch x) f)
-taken-came s f x new cur past j epoch now who is = taken-grown s f (with_came x new ∷ (cur ∷ past)) j (Moved epoch x)
-    (inl (now, who), tt) (λ q. parts-more _ _ _ _ (f q) (part-came s x new (cur ∷ past) q)
-    (part-came s x new (cur ∷ past) q) (is q))
+module _ (s : JoinerStart) (f : ℕ → List ToJoiner) where
+  -- and with a tuple that the open step's partner moves here in that step
+  pub taken-came : (x : Tuple) (new cur : Step) (past : List Step) (j epoch : ℕ)
+      → epoch ≡ s.epoch + length past + 1 → j ≡ partner_in_step cur.shift new.shift s.id
+      → TakenParts s (new ∷ (cur ∷ past)) f → TakenParts s (with_came x new ∷ (cur ∷ past)) (grown j (Moved epoch x) f)
+  taken-came x new cur past j epoch now who is = taken-grown s f (with_came x new ∷ (cur ∷ past)) j (Moved epoch x)
+      (inl (now, who), tt) (λ q. parts-more _ _ _ _ (f q) (part-came s x new (cur ∷ past) q)
+      (part-came s x new (cur ∷ past) q) (is q))
 
 -- and with the end of its part
 pub taken-end : (s : JoinerStart) (f : ℕ → List ToJoiner) (new cur : Step) (past : List Step) (j epoch : ℕ)

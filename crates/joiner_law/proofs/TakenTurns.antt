@@ -34,63 +34,64 @@ use Rattle.epoch_tags.proofs.Appends.{moved_ends-append}
 
 -- ---- a step is opened
 
--- the exchanged side of the store is posted to the partner, and the new store begins with what is kept
-pub opened-step : (s : JoinerStart) (t : Taken) (lists : JoinerLists) (waiting : List Pair) (ended : ℕ
-    → Bool) (a : List Tuple) (cur : Step) (past : List Step) (shift : ℕ)
-    → shift ≤ s.k → AreNeighbours cur.shift shift
-    → StandsSettled s t lists waiting ended a cur past
-    → StandsOpen s (with_shift (s.epoch + length past + 1) shift t)
-    (with_sent lists (map (moved_post (partner_in_step cur.shift shift s.id) (s.epoch + length past + 1))
-    (filter (is_of (exchanged_side cur.shift shift)) a)))
-    waiting (λ p. false) ended false false a (filter (holds s.k shift s.id) a) (new_step shift) cur past
-opened-step s t lists waiting ended a cur past shift within near stands =
-    let is = stands.steps in
-    let e = s.epoch + length past + 1 in
-    let none_moved : (q : ℕ) → moved_of e (t.from_joiner q) ≡ [] =
-    λ q. none-later (s.epoch + length past) e (t.from_joiner q) (stands.taken_up_to q) (omega arith) in
-    let none_ended : (q : ℕ) → moved_ends e (t.from_joiner q) ≡ 0 =
-    λ q. no_end-later (s.epoch + length past) e (t.from_joiner q) (stands.taken_up_to q) (omega arith) in
-    let none_came : (p : ℕ) → p < s.feeders → tups_of e (t.from_feeder p) ≡ [] =
-    λ p low. feeder-none s.epoch t.shift_at (length past) (ended p) e (t.from_feeder p) (omega arith)
-    (is.feeders p low) in
-    record {
-      steps = record {
-        feeders = λ p low. feeder-shifts s.epoch t.shift_at (with_shift e shift t).shift_at (length past) (ended p)
-            (t.from_feeder p) (λ i less. rw (ne_eqb i e (λ same. absurd (omega arith))) refl) (is.feeders p low);
-        history = (
-          step-new s t e shift (length past) within refl none_moved none_came,
-          history-shift s t e shift (cur ∷ past) (omega arith) is.history,
-        );
-        by_one = (near, is.by_one);
-        in_time = (tt, is.in_time);
-        pairs = pairs-posted s lists _ _ (partner_in_step cur.shift shift s.id) (s.epoch + length past + 1)
-            (filter (is_of (exchanged_side cur.shift shift)) a)
-            (pairs-new s _ waiting shift cur past is.in_time is.pairs);
-        sent = sent-new s lists a shift cur past (λ q. (stands.links q).up_to) stands.store is.sent;
-        parts = (
-          none_ended (partner_of s (with_shift e shift t) (length past)),
-          parts-shift s t e shift (cur ∷ past) (omega arith) is.parts,
-        );
-        told = told-posted lists (partner_in_step cur.shift shift s.id) (s.epoch + length past + 1)
-            (filter (is_of (exchanged_side cur.shift shift)) a) _ is.told;
-        first_shift = first-kept s t e shift (omega arith) is.first_shift;
-        from_partner = taken-new s t.from_joiner shift (cur ∷ past) is.from_partner;
-        to_partner = parts_sent-new s lists shift cur past (filter (is_of (exchanged_side cur.shift shift)) a)
-            is.to_partner;
-      };
-      store = stands.store;
-      opened = rw (stored-new s.k s.id shift (cur ∷ past)) (SameBag-filter (holds s.k shift s.id) stands.store);
-      links = λ q.
-          let same : e + 0 ≡ e = omega arith in
-          let who = partner_in_step cur.shift shift s.id in
-          let xs = filter (is_of (exchanged_side cur.shift shift)) a in
-          subst (λ n. IsLink s.epoch e n (lists.to_joiner q ++ posted_to_joiner q (map (moved_post who e) xs)))
-          (sym same)
-          (link-moved s.epoch e (lists.to_joiner q) who q xs
-          (link-later s.epoch (s.epoch + length past) e e e (lists.to_joiner q) (omega arith) (omega arith)
-          (stands.links q)));
-      taken_up_to = λ q. up_to-later (s.epoch + length past) e (t.from_joiner q) (omega arith) (stands.taken_up_to q);
-    }
+module _ {s : JoinerStart} {t : Taken} {lists : JoinerLists} {waiting : List Pair} {ended : ℕ → Bool}
+    {a : List Tuple} {cur : Step} {past : List Step} where
+  -- the exchanged side of the store is posted to the partner, and the new store begins with what is kept
+  pub opened-step : (shift : ℕ)
+      → shift ≤ s.k → AreNeighbours cur.shift shift
+      → StandsSettled s t lists waiting ended a cur past
+      → StandsOpen s (with_shift (s.epoch + length past + 1) shift t)
+      (with_sent lists (map (moved_post (partner_in_step cur.shift shift s.id) (s.epoch + length past + 1))
+      (filter (is_of (exchanged_side cur.shift shift)) a)))
+      waiting (λ p. false) ended false false a (filter (holds s.k shift s.id) a) (new_step shift) cur past
+  opened-step shift within near stands =
+      let is = stands.steps in
+      let e = s.epoch + length past + 1 in
+      let none_moved : (q : ℕ) → moved_of e (t.from_joiner q) ≡ [] =
+      λ q. none-later (s.epoch + length past) e (t.from_joiner q) (stands.taken_up_to q) (omega arith) in
+      let none_ended : (q : ℕ) → moved_ends e (t.from_joiner q) ≡ 0 =
+      λ q. no_end-later (s.epoch + length past) e (t.from_joiner q) (stands.taken_up_to q) (omega arith) in
+      let none_came : (p : ℕ) → p < s.feeders → tups_of e (t.from_feeder p) ≡ [] =
+      λ p low. feeder-none s.epoch t.shift_at (length past) (ended p) e (t.from_feeder p) (omega arith)
+      (is.feeders p low) in
+      record {
+        steps = record {
+          feeders = λ p low. feeder-shifts s.epoch t.shift_at (with_shift e shift t).shift_at (length past) (ended p)
+              (t.from_feeder p) (λ i less. rw (ne_eqb i e (λ same. absurd (omega arith))) refl) (is.feeders p low);
+          history = (
+            step-new s t e shift (length past) within refl none_moved none_came,
+            history-shift s t e shift (cur ∷ past) (omega arith) is.history,
+          );
+          by_one = (near, is.by_one);
+          in_time = (tt, is.in_time);
+          pairs = pairs-posted s lists _ _ (partner_in_step cur.shift shift s.id) (s.epoch + length past + 1)
+              (filter (is_of (exchanged_side cur.shift shift)) a)
+              (pairs-new s _ waiting shift cur past is.in_time is.pairs);
+          sent = sent-new s lists a shift cur past (λ q. (stands.links q).up_to) stands.store is.sent;
+          parts = (
+            none_ended (partner_of s (with_shift e shift t) (length past)),
+            parts-shift s t e shift (cur ∷ past) (omega arith) is.parts,
+          );
+          told = told-posted lists (partner_in_step cur.shift shift s.id) (s.epoch + length past + 1)
+              (filter (is_of (exchanged_side cur.shift shift)) a) _ is.told;
+          first_shift = first-kept s t e shift (omega arith) is.first_shift;
+          from_partner = taken-new s t.from_joiner shift (cur ∷ past) is.from_partner;
+          to_partner = parts_sent-new s lists shift cur past (filter (is_of (exchanged_side cur.shift shift)) a)
+              is.to_partner;
+        };
+        store = stands.store;
+        opened = rw (stored-new s.k s.id shift (cur ∷ past)) (SameBag-filter (holds s.k shift s.id) stands.store);
+        links = λ q.
+            let same : e + 0 ≡ e = omega arith in
+            let who = partner_in_step cur.shift shift s.id in
+            let xs = filter (is_of (exchanged_side cur.shift shift)) a in
+            subst (λ n. IsLink s.epoch e n (lists.to_joiner q ++ posted_to_joiner q (map (moved_post who e) xs)))
+            (sym same)
+            (link-moved s.epoch e (lists.to_joiner q) who q xs
+            (link-later s.epoch (s.epoch + length past) e e e (lists.to_joiner q) (omega arith) (omega arith)
+            (stands.links q)));
+        taken_up_to = λ q. up_to-later (s.epoch + length past) e (t.from_joiner q) (omega arith) (stands.taken_up_to q);
+      }
 
 -- ---- a feeder's turn, in the open step
 
@@ -151,220 +152,224 @@ told-more e n xs is =
     ∙ sym (map-append Settled (counting_from (e + 1) n) (((e + 1) + n) ∷ []))
     ∙ sym (ap (λ ks. map Settled ks) (counting-more (e + 1) n))
 
--- one that isn't the last
-pub open-turn : (s : JoinerStart) (t : Taken) (lists : JoinerLists) (waiting : List Pair) (turned ended : ℕ
-    → Bool) (part_ended : Bool) (a b : List Tuple) (new cur : Step) (past : List Step) (p epoch shift : ℕ)
-    → p < s.feeders → ended p ≡ false → turned p ≡ false → epoch ≡ s.epoch + length past + 1 → shift ≡ new.shift
-    → StandsOpen s t lists waiting turned ended false part_ended a b new cur past
-    → StandsOpen s (took_of_feeder p (Turn epoch shift) t) lists waiting (with_flag p turned)
-    ended false part_ended a b new cur past
-open-turn s t lists waiting turned ended part_ended a b new cur past p epoch shift low going still now same stands =
-    let is = stands.steps in
-    let top = is.history.0 in
-    let own : (p == p) ≡ true = eq-eqb p p refl in
-    let of : shift ≡ t.shift_at epoch = turn-shift s t epoch shift new (length past) now same top.shift in
-    record {
-      steps = record {
-        feeders = feeders-grown s t (length past) turned ended (with_flag p turned) ended p (Turn epoch shift)
-            (λ q differ. (rw (ne_eqb q p differ) refl, refl))
-            (rw (going, still, own) (feeder-turn s.epoch t.shift_at (length past) (t.from_feeder p) epoch shift
-            (omega arith) of)) low is.feeders;
-        history = history-quiet s t p (Turn epoch shift) (new ∷ (cur ∷ past)) low (λ n less. refl) is.history;
-        by_one = is.by_one;
-        in_time = is.in_time;
-        pairs = is.pairs;
-        sent = is.sent;
-        parts = parts-same s t part_ended (new ∷ (cur ∷ past)) (Turn epoch shift) p is.parts;
-        told = is.told;
-        first_shift = is.first_shift;
-        from_partner = is.from_partner;
-        to_partner = is.to_partner;
-      };
-      store = stands.store;
-      opened = stands.opened;
-      links = stands.links;
-      taken_up_to = stands.taken_up_to;
-    }
+module _ {s : JoinerStart} {t : Taken} {lists : JoinerLists} {waiting : List Pair} {turned ended : ℕ → Bool}
+    {part_ended : Bool} {a b : List Tuple} {new cur : Step} {past : List Step} where
+  -- one that isn't the last
+  pub open-turn : (p epoch shift : ℕ)
+      → p < s.feeders → ended p ≡ false → turned p ≡ false → epoch ≡ s.epoch + length past + 1 → shift ≡ new.shift
+      → StandsOpen s t lists waiting turned ended false part_ended a b new cur past
+      → StandsOpen s (took_of_feeder p (Turn epoch shift) t) lists waiting (with_flag p turned)
+      ended false part_ended a b new cur past
+  open-turn p epoch shift low going still now same stands =
+      let is = stands.steps in
+      let top = is.history.0 in
+      let own : (p == p) ≡ true = eq-eqb p p refl in
+      let of : shift ≡ t.shift_at epoch = turn-shift s t epoch shift new (length past) now same top.shift in
+      record {
+        steps = record {
+          feeders = feeders-grown s t (length past) turned ended (with_flag p turned) ended p (Turn epoch shift)
+              (λ q differ. (rw (ne_eqb q p differ) refl, refl))
+              (rw (going, still, own) (feeder-turn s.epoch t.shift_at (length past) (t.from_feeder p) epoch shift
+              (omega arith) of)) low is.feeders;
+          history = history-quiet s t p (Turn epoch shift) (new ∷ (cur ∷ past)) low (λ n less. refl) is.history;
+          by_one = is.by_one;
+          in_time = is.in_time;
+          pairs = is.pairs;
+          sent = is.sent;
+          parts = parts-same s t part_ended (new ∷ (cur ∷ past)) (Turn epoch shift) p is.parts;
+          told = is.told;
+          first_shift = is.first_shift;
+          from_partner = is.from_partner;
+          to_partner = is.to_partner;
+        };
+        store = stands.store;
+        opened = stands.opened;
+        links = stands.links;
+        taken_up_to = stands.taken_up_to;
+      }
 
--- all have turned: the end of this joiner's part is posted to the partner
-pub all-turned : (s : JoinerStart) (t : Taken) (lists : JoinerLists) (waiting : List Pair) (turned ended : ℕ
-    → Bool) (part_ended : Bool) (a b : List Tuple) (new cur : Step) (past : List Step)
-    → StandsOpen s t lists waiting turned ended false part_ended a b new cur past
-    → StandsOpen s t (with_sent lists (moved_end_post (partner_in_step cur.shift new.shift s.id)
-    (s.epoch + length past + 1) ∷ [])) waiting turned ended true part_ended a b new cur past
-all-turned s t lists waiting turned ended part_ended a b new cur past stands =
-    let is = stands.steps in
-    let who = partner_in_step cur.shift new.shift s.id in
-    let e = s.epoch + length past + 1 in
-    record {
-      steps = record {
-        feeders = is.feeders;
-        history = is.history;
-        by_one = is.by_one;
-        in_time = is.in_time;
-        pairs = record { pairs = rw (append-nil lists.to_collector) is.pairs.pairs };
-        sent = sent-end s lists new cur past is.sent;
-        parts = is.parts;
-        told = append-nil lists.to_controller ∙ is.told;
-        first_shift = is.first_shift;
-        from_partner = is.from_partner;
-        to_partner = parts_sent-end s lists new cur past is.to_partner;
-      };
-      store = stands.store;
-      opened = stands.opened;
-      links = λ q.
-          let same : e + 0 ≡ e = omega arith in
-          let before : IsLink s.epoch e e (lists.to_joiner q) =
-          subst (λ n. IsLink s.epoch e n (lists.to_joiner q)) same (stands.links q) in
-          link-ended s.epoch e who q (lists.to_joiner q) before;
-      taken_up_to = stands.taken_up_to;
-    }
+  -- all have turned: the end of this joiner's part is posted to the partner
+  pub all-turned : StandsOpen s t lists waiting turned ended false part_ended a b new cur past
+      → StandsOpen s t (with_sent lists (moved_end_post (partner_in_step cur.shift new.shift s.id)
+      (s.epoch + length past + 1) ∷ [])) waiting turned ended true part_ended a b new cur past
+  all-turned stands =
+      let is = stands.steps in
+      let who = partner_in_step cur.shift new.shift s.id in
+      let e = s.epoch + length past + 1 in
+      record {
+        steps = record {
+          feeders = is.feeders;
+          history = is.history;
+          by_one = is.by_one;
+          in_time = is.in_time;
+          pairs = record { pairs = rw (append-nil lists.to_collector) is.pairs.pairs };
+          sent = sent-end s lists new cur past is.sent;
+          parts = is.parts;
+          told = append-nil lists.to_controller ∙ is.told;
+          first_shift = is.first_shift;
+          from_partner = is.from_partner;
+          to_partner = parts_sent-end s lists new cur past is.to_partner;
+        };
+        store = stands.store;
+        opened = stands.opened;
+        links = λ q.
+            let same : e + 0 ≡ e = omega arith in
+            let before : IsLink s.epoch e e (lists.to_joiner q) =
+            subst (λ n. IsLink s.epoch e n (lists.to_joiner q)) same (stands.links q) in
+            link-ended s.epoch e who q (lists.to_joiner q) before;
+        taken_up_to = stands.taken_up_to;
+      }
 
 -- ---- a feeder's end
 
--- while a step is open: this feeder has ended, and all else is as it was
-pub open-end : (s : JoinerStart) (t : Taken) (lists : JoinerLists) (waiting : List Pair) (turned ended : ℕ
-    → Bool) (all_turned part_ended : Bool) (a b : List Tuple) (new cur : Step) (past : List Step) (p : ℕ)
-    → p < s.feeders → ended p ≡ false
-    → StandsOpen s t lists waiting turned ended all_turned part_ended a b new cur past
-    → StandsOpen s (took_of_feeder p End t) lists waiting turned (with_flag p ended)
-    all_turned part_ended a b new cur past
-open-end s t lists waiting turned ended all_turned part_ended a b new cur past p low going stands =
-    let is = stands.steps in
-    let own : (p == p) ≡ true = eq-eqb p p refl in
-    record {
-      steps = record {
-        feeders = feeders-grown s t (length past) turned ended turned (with_flag p ended) p End (λ q differ. (
-          refl,
-          rw (ne_eqb q p differ) refl,
-        ))
-            (rw (going, own) (feeder-end s.epoch t.shift_at (length past) (turned p) (t.from_feeder p))) low is.feeders;
-        history = history-quiet s t p End (new ∷ (cur ∷ past)) low (λ n less. refl) is.history;
-        by_one = is.by_one;
-        in_time = is.in_time;
-        pairs = is.pairs;
-        sent = is.sent;
-        parts = parts-same s t part_ended (new ∷ (cur ∷ past)) End p is.parts;
-        told = is.told;
-        first_shift = is.first_shift;
-        from_partner = is.from_partner;
-        to_partner = is.to_partner;
-      };
-      store = stands.store;
-      opened = stands.opened;
-      links = stands.links;
-      taken_up_to = stands.taken_up_to;
-    }
+module _ {s : JoinerStart} {t : Taken} {lists : JoinerLists} {waiting : List Pair} {turned ended : ℕ → Bool}
+    {all_turned part_ended : Bool} {a b : List Tuple} {new cur : Step} {past : List Step} where
+  -- while a step is open: this feeder has ended, and all else is as it was
+  pub open-end : (p : ℕ)
+      → p < s.feeders → ended p ≡ false
+      → StandsOpen s t lists waiting turned ended all_turned part_ended a b new cur past
+      → StandsOpen s (took_of_feeder p End t) lists waiting turned (with_flag p ended)
+      all_turned part_ended a b new cur past
+  open-end p low going stands =
+      let is = stands.steps in
+      let own : (p == p) ≡ true = eq-eqb p p refl in
+      record {
+        steps = record {
+          feeders = feeders-grown s t (length past) turned ended turned (with_flag p ended) p End (λ q differ. (
+            refl,
+            rw (ne_eqb q p differ) refl,
+          ))
+              (rw (going, own) (feeder-end s.epoch t.shift_at (length past) (turned p) (t.from_feeder p))) low
+              is.feeders;
+          history = history-quiet s t p End (new ∷ (cur ∷ past)) low (λ n less. refl) is.history;
+          by_one = is.by_one;
+          in_time = is.in_time;
+          pairs = is.pairs;
+          sent = is.sent;
+          parts = parts-same s t part_ended (new ∷ (cur ∷ past)) End p is.parts;
+          told = is.told;
+          first_shift = is.first_shift;
+          from_partner = is.from_partner;
+          to_partner = is.to_partner;
+        };
+        store = stands.store;
+        opened = stands.opened;
+        links = stands.links;
+        taken_up_to = stands.taken_up_to;
+      }
 
--- and the same while none is open
-pub settled-end : (s : JoinerStart) (t : Taken) (lists : JoinerLists) (waiting : List Pair) (ended : ℕ
-    → Bool) (a : List Tuple) (cur : Step) (past : List Step) (p : ℕ)
-    → p < s.feeders → ended p ≡ false
-    → StandsSettled s t lists waiting ended a cur past
-    → StandsSettled s (took_of_feeder p End t) lists waiting (with_flag p ended) a cur past
-settled-end s t lists waiting ended a cur past p low going stands =
-    let is = stands.steps in
-    let own : (p == p) ≡ true = eq-eqb p p refl in
-    record {
-      steps = record {
-        feeders = feeders-grown s t (length past) (λ q. false) ended (λ q. false) (with_flag p ended) p End
-            (λ q differ. (refl, rw (ne_eqb q p differ) refl))
-            (rw (going, own) (feeder-end s.epoch t.shift_at (length past) false (t.from_feeder p))) low is.feeders;
-        history = history-quiet s t p End (cur ∷ past) low (λ n less. refl) is.history;
-        by_one = is.by_one;
-        in_time = is.in_time;
-        pairs = is.pairs;
-        sent = is.sent;
-        parts = parts-same s t true (cur ∷ past) End p is.parts;
-        told = is.told;
-        first_shift = is.first_shift;
-        from_partner = is.from_partner;
-        to_partner = is.to_partner;
-      };
-      store = stands.store;
-      links = stands.links;
-      taken_up_to = stands.taken_up_to;
-    }
+module _ {s : JoinerStart} {t : Taken} {lists : JoinerLists} {waiting : List Pair} {ended : ℕ → Bool}
+    {a : List Tuple} {cur : Step} {past : List Step} where
+  -- and the same while none is open
+  pub settled-end : (p : ℕ)
+      → p < s.feeders → ended p ≡ false
+      → StandsSettled s t lists waiting ended a cur past
+      → StandsSettled s (took_of_feeder p End t) lists waiting (with_flag p ended) a cur past
+  settled-end p low going stands =
+      let is = stands.steps in
+      let own : (p == p) ≡ true = eq-eqb p p refl in
+      record {
+        steps = record {
+          feeders = feeders-grown s t (length past) (λ q. false) ended (λ q. false) (with_flag p ended) p End
+              (λ q differ. (refl, rw (ne_eqb q p differ) refl))
+              (rw (going, own) (feeder-end s.epoch t.shift_at (length past) false (t.from_feeder p))) low is.feeders;
+          history = history-quiet s t p End (cur ∷ past) low (λ n less. refl) is.history;
+          by_one = is.by_one;
+          in_time = is.in_time;
+          pairs = is.pairs;
+          sent = is.sent;
+          parts = parts-same s t true (cur ∷ past) End p is.parts;
+          told = is.told;
+          first_shift = is.first_shift;
+          from_partner = is.from_partner;
+          to_partner = is.to_partner;
+        };
+        store = stands.store;
+        links = stands.links;
+        taken_up_to = stands.taken_up_to;
+      }
 
 -- ---- the end of the partner's part
 
--- the partner has ended its part of the open step, and all else is as it was
-pub open-moved_end : (s : JoinerStart) (t : Taken) (lists : JoinerLists) (waiting : List Pair) (turned ended : ℕ
-    → Bool) (all_turned : Bool) (a b : List Tuple) (new cur : Step) (past : List Step) (epoch : ℕ)
-    → epoch ≡ s.epoch + length past + 1
-    → StandsOpen s t lists waiting turned ended all_turned false a b new cur past
-    → StandsOpen s (took_of_joiner (partner_of s t (length past)) (MovedEnd epoch) t)
-    lists waiting turned ended all_turned true a b new cur past
-open-moved_end s t lists waiting turned ended all_turned a b new cur past epoch now stands =
-    let is = stands.steps in
-    let q = partner_of s t (length past) in
-    let e = s.epoch + length past + 1 in
-    let one : moved_ends e (MovedEnd epoch ∷ []) ≡ 1 = rw (eq-eqb epoch e now) refl in
-    let none = is.parts.0 in
-    record {
-      steps = record {
-        feeders = is.feeders;
-        history = history-part s t q (MovedEnd epoch) (new ∷ (cur ∷ past)) (λ n less. refl) is.history;
-        by_one = is.by_one;
-        in_time = is.in_time;
-        pairs = is.pairs;
-        sent = is.sent;
-        parts = (
-          ap (λ ms. moved_ends e ms) (grown-same q (MovedEnd epoch) t.from_joiner)
-              ∙ moved_ends-append e (t.from_joiner q) (MovedEnd epoch ∷ []) ∙ omega arith,
-          parts-quiet s t true q (MovedEnd epoch) (cur ∷ past)
-              (λ n less. rw (ne_eqb epoch (s.epoch + n + 1) (λ same. absurd (omega arith))) refl) is.parts.1,
-        );
-        told = is.told;
-        first_shift = is.first_shift;
-        from_partner = taken-end s t.from_joiner new cur past q epoch now (who-is s t new cur past is.history)
-            is.from_partner;
-        to_partner = is.to_partner;
-      };
-      store = stands.store;
-      opened = stands.opened;
-      links = stands.links;
-      taken_up_to = up_to-grown e q (MovedEnd epoch) t.from_joiner (omega arith, tt) stands.taken_up_to;
-    }
+module _ {s : JoinerStart} {t : Taken} {lists : JoinerLists} {waiting : List Pair} {turned ended : ℕ → Bool}
+    {all_turned : Bool} {a b : List Tuple} {new cur : Step} {past : List Step} where
+  -- the partner has ended its part of the open step, and all else is as it was
+  pub open-moved_end : (epoch : ℕ)
+      → epoch ≡ s.epoch + length past + 1
+      → StandsOpen s t lists waiting turned ended all_turned false a b new cur past
+      → StandsOpen s (took_of_joiner (partner_of s t (length past)) (MovedEnd epoch) t)
+      lists waiting turned ended all_turned true a b new cur past
+  open-moved_end epoch now stands =
+      let is = stands.steps in
+      let q = partner_of s t (length past) in
+      let e = s.epoch + length past + 1 in
+      let one : moved_ends e (MovedEnd epoch ∷ []) ≡ 1 = rw (eq-eqb epoch e now) refl in
+      let none = is.parts.0 in
+      record {
+        steps = record {
+          feeders = is.feeders;
+          history = history-part s t q (MovedEnd epoch) (new ∷ (cur ∷ past)) (λ n less. refl) is.history;
+          by_one = is.by_one;
+          in_time = is.in_time;
+          pairs = is.pairs;
+          sent = is.sent;
+          parts = (
+            ap (λ ms. moved_ends e ms) (grown-same q (MovedEnd epoch) t.from_joiner)
+                ∙ moved_ends-append e (t.from_joiner q) (MovedEnd epoch ∷ []) ∙ omega arith,
+            parts-quiet s t true q (MovedEnd epoch) (cur ∷ past)
+                (λ n less. rw (ne_eqb epoch (s.epoch + n + 1) (λ same. absurd (omega arith))) refl) is.parts.1,
+          );
+          told = is.told;
+          first_shift = is.first_shift;
+          from_partner = taken-end s t.from_joiner new cur past q epoch now (who-is s t new cur past is.history)
+              is.from_partner;
+          to_partner = is.to_partner;
+        };
+        store = stands.store;
+        opened = stands.opened;
+        links = stands.links;
+        taken_up_to = up_to-grown e q (MovedEnd epoch) t.from_joiner (omega arith, tt) stands.taken_up_to;
+      }
 
 -- ---- the step is settled
 
--- once all feeders have turned and the partner ended its part: the controller is told, and the new store is the store
-pub settled-step : (s : JoinerStart) (t : Taken) (lists : JoinerLists) (waiting : List Pair) (turned ended : ℕ
-    → Bool) (a b : List Tuple) (new cur : Step) (past : List Step)
-    → ((p : ℕ) → p < s.feeders → turned p ≡ true)
-    → StandsOpen s t lists waiting turned ended true true a b new cur past
-    → StandsSettled s t (with_sent lists (settled_post (s.epoch + length past + 1) ∷ [])) waiting ended b new
-    (cur ∷ past)
-settled-step s t lists waiting turned ended a b new cur past all stands =
-    let is = stands.steps in
-    record {
-      steps = record {
-        feeders = λ p low. feeder-done s.epoch t.shift_at (length past) (length (cur ∷ past)) (turned p) (ended p)
-            (t.from_feeder p) (omega arith) (all p low) (is.feeders p low);
-        history = is.history;
-        by_one = is.by_one;
-        in_time = is.in_time;
-        pairs = record { pairs = rw (append-nil lists.to_collector) is.pairs.pairs };
-        sent = all-quiet s lists (settled_post (s.epoch + length past + 1) ∷ []) true (new ∷ (cur ∷ past))
-            (λ n less. record { tuples = λ j. refl; ends = λ j. refl }) is.sent;
-        parts = is.parts;
-        told = told-more s.epoch (length past) lists.to_controller is.told;
-        first_shift = is.first_shift;
-        from_partner = is.from_partner;
-        to_partner = parts_sent-none s true (new ∷ (cur ∷ past)) lists.to_joiner _ (λ q. append-nil (lists.to_joiner q))
-            is.to_partner;
-      };
-      store = stands.opened;
-      links = λ q.
-          let here = stands.links q in
-          let low : reached s.epoch (lists.to_joiner q) ≤ s.epoch + length past + 1 + 1 = here.goes_on in
-          rw (append-nil (lists.to_joiner q)) (record {
-            never_falls = here.never_falls;
-            up_to = up_to-later (s.epoch + length past + 1) (s.epoch + length (cur ∷ past)) (lists.to_joiner q)
-                (omega arith) here.up_to;
-            goes_on = omega arith;
-          });
-      taken_up_to = λ q. up_to-later (s.epoch + length past + 1) (s.epoch + length (cur ∷ past)) (t.from_joiner q)
-          (omega arith) (stands.taken_up_to q);
-    }
+module _ {s : JoinerStart} {t : Taken} {lists : JoinerLists} {waiting : List Pair} {turned ended : ℕ → Bool}
+    {a b : List Tuple} {new cur : Step} {past : List Step} where
+  -- once all feeders have turned and the partner ended its part: the controller is told, and the new store is the store
+  pub settled-step : ((p : ℕ) → p < s.feeders → turned p ≡ true)
+      → StandsOpen s t lists waiting turned ended true true a b new cur past
+      → StandsSettled s t (with_sent lists (settled_post (s.epoch + length past + 1) ∷ [])) waiting ended b new
+      (cur ∷ past)
+  settled-step all stands =
+      let is = stands.steps in
+      record {
+        steps = record {
+          feeders = λ p low. feeder-done s.epoch t.shift_at (length past) (length (cur ∷ past)) (turned p) (ended p)
+              (t.from_feeder p) (omega arith) (all p low) (is.feeders p low);
+          history = is.history;
+          by_one = is.by_one;
+          in_time = is.in_time;
+          pairs = record { pairs = rw (append-nil lists.to_collector) is.pairs.pairs };
+          sent = all-quiet s lists (settled_post (s.epoch + length past + 1) ∷ []) true (new ∷ (cur ∷ past))
+              (λ n less. record { tuples = λ j. refl; ends = λ j. refl }) is.sent;
+          parts = is.parts;
+          told = told-more s.epoch (length past) lists.to_controller is.told;
+          first_shift = is.first_shift;
+          from_partner = is.from_partner;
+          to_partner = parts_sent-none s true (new ∷ (cur ∷ past)) lists.to_joiner _
+              (λ q. append-nil (lists.to_joiner q))
+              is.to_partner;
+        };
+        store = stands.opened;
+        links = λ q.
+            let here = stands.links q in
+            let low : reached s.epoch (lists.to_joiner q) ≤ s.epoch + length past + 1 + 1 = here.goes_on in
+            rw (append-nil (lists.to_joiner q)) (record {
+              never_falls = here.never_falls;
+              up_to = up_to-later (s.epoch + length past + 1) (s.epoch + length (cur ∷ past)) (lists.to_joiner q)
+                  (omega arith) here.up_to;
+              goes_on = omega arith;
+            });
+        taken_up_to = λ q. up_to-later (s.epoch + length past + 1) (s.epoch + length (cur ∷ past)) (t.from_joiner q)
+            (omega arith) (stands.taken_up_to q);
+      }

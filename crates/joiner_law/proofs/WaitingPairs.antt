@@ -38,35 +38,35 @@ older-arrived : (e : ℕ) (x : Tuple) (step : Step) (past : List Step) → CameO
 older-arrived e x step [] older = older
 older-arrived e x step (before ∷ past) older = older
 
--- a tuple of the latest step
-pub pairs-arrived : (s : JoinerStart) (sent waiting : List Pair) (x : Tuple) (step : Step) (past : List Step)
-    (a : List Tuple)
-    → x.stamp ≡ s.epoch + length past → ArrivedInTime s.epoch (step ∷ past) → SameBag a (stored s.k s.id (step ∷ past))
-    → ArePairs s sent waiting (step ∷ past) → ArePairs s sent (waiting ++ probed s.matches all_tuples x a)
-    (with_arrived x step ∷ past)
-pairs-arrived s sent waiting x step past a stamp in_time same is = record {
-  pairs = λ older.
-      let older' = older-arrived s.epoch x step past older in
-      wait-more _ _ _ _ _ _ (is.pairs older') (found-arrived s.matches s.epoch s.k s.id x step past a stamp
-      (stored-up_to s.epoch s.k s.id step past older' in_time) same);
-}
+module _ (s : JoinerStart) (sent waiting : List Pair) (x : Tuple) where
+  -- a tuple of the latest step
+  pub pairs-arrived : (step : Step) (past : List Step) (a : List Tuple)
+      → x.stamp ≡ s.epoch + length past → ArrivedInTime s.epoch (step ∷ past)
+      → SameBag a (stored s.k s.id (step ∷ past))
+      → ArePairs s sent waiting (step ∷ past) → ArePairs s sent (waiting ++ probed s.matches all_tuples x a)
+      (with_arrived x step ∷ past)
+  pairs-arrived step past a stamp in_time same is = record {
+    pairs = λ older.
+        let older' = older-arrived s.epoch x step past older in
+        wait-more _ _ _ _ _ _ (is.pairs older') (found-arrived s.matches s.epoch s.k s.id x step past a stamp
+        (stored-up_to s.epoch s.k s.id step past older' in_time) same);
+  }
 
--- a late tuple, under an open step
-pub pairs-under : (s : JoinerStart) (sent waiting : List Pair) (x : Tuple) (new cur : Step) (past : List Step)
-    (a b : List Tuple)
-    → x.stamp ≡ s.epoch + length past → ArrivedInTime s.epoch (new ∷ (cur ∷ past))
-    → SameBag a (stored s.k s.id (cur ∷ past)) → SameBag b (stored s.k s.id (new ∷ (cur ∷ past)))
-    → ArePairs s sent waiting (new ∷ (cur ∷ past))
-    → ArePairs s sent (waiting ++ (probed s.matches all_tuples x a
-    ++ cond (holds s.k new.shift s.id x) (probed s.matches (only_stamp (s.epoch + length (cur ∷ past))) x b) []))
-    (new ∷ (with_arrived x cur ∷ past))
-pairs-under s sent waiting x new cur past a b stamp in_time same_a same_b is = record {
-  pairs = λ older.
-      let below = older-arrived s.epoch x cur past older.1 in
-      let older' : CameOlder s.epoch (new ∷ (cur ∷ past)) = (older.0, below) in
-      wait-more _ _ _ _ _ _ (is.pairs older') (found-under s.matches s.epoch s.k s.id x new cur past a b stamp
-      (stored-up_to s.epoch s.k s.id cur past below in_time.1) same_a same_b);
-}
+  -- a late tuple, under an open step
+  pub pairs-under : (new cur : Step) (past : List Step) (a b : List Tuple)
+      → x.stamp ≡ s.epoch + length past → ArrivedInTime s.epoch (new ∷ (cur ∷ past))
+      → SameBag a (stored s.k s.id (cur ∷ past)) → SameBag b (stored s.k s.id (new ∷ (cur ∷ past)))
+      → ArePairs s sent waiting (new ∷ (cur ∷ past))
+      → ArePairs s sent (waiting ++ (probed s.matches all_tuples x a
+      ++ cond (holds s.k new.shift s.id x) (probed s.matches (only_stamp (s.epoch + length (cur ∷ past))) x b) []))
+      (new ∷ (with_arrived x cur ∷ past))
+  pairs-under new cur past a b stamp in_time same_a same_b is = record {
+    pairs = λ older.
+        let below = older-arrived s.epoch x cur past older.1 in
+        let older' : CameOlder s.epoch (new ∷ (cur ∷ past)) = (older.0, below) in
+        wait-more _ _ _ _ _ _ (is.pairs older') (found-under s.matches s.epoch s.k s.id x new cur past a b stamp
+        (stored-up_to s.epoch s.k s.id cur past below in_time.1) same_a same_b);
+  }
 
 -- a tuple that the partner moved here
 pub pairs-came : (s : JoinerStart) (sent waiting : List Pair) (x : Tuple) (step before : Step) (past : List Step)

@@ -206,16 +206,16 @@ module _ (rules : Rules) (first : TurnLine) (p : ℕ) (start : is_drain_of p fir
         → line.rows_r + most_r ≤ lines_r p (line ∷ past) + 2 ^ 32
         → line.rows_s + most_s ≤ lines_s p (line ∷ past) + 2 ^ 32
         → IsInPlace line past p m
-    next_in_place line past earlier rest (Ask dr ds) follows have last in_r in_s few_r few_s =
+    next_in_place line past earlier rest (Ask dr ds) follows have last = λ in_r in_s few_r few_s.
         let none = none_drained earlier rest (Ask dr ds) last in
         let un = undrained rules first line past p follows start (have.drains ∙ none) in
         let r = asked_r-append earlier (Ask dr ds ∷ rest) in
         let s = asked_s-append earlier (Ask dr ds ∷ rest) in
         (ap not un, omega (arith, have.rows_r), omega (arith, have.rows_s))
-    next_in_place line past earlier rest Drained follows have last in_r in_s few_r few_s =
+    next_in_place line past earlier rest Drained follows have last = λ in_r in_s few_r few_s.
         let none = none_drained earlier rest Drained last in
         ap not (undrained rules first line past p follows start (have.drains ∙ none))
-    next_in_place line past earlier rest (Settled epoch) follows have last in_r in_s few_r few_s =
+    next_in_place line past earlier rest (Settled epoch) follows have last = λ in_r in_s few_r few_s.
         not_settled earlier rest epoch last
 
     -- so none is passed over
@@ -226,9 +226,9 @@ module _ (rules : Rules) (first : TurnLine) (p : ℕ) (start : is_drain_of p fir
         → line.rows_r + most_r ≤ lines_r p (line ∷ past) + 2 ^ 32
         → line.rows_s + most_s ≤ lines_s p (line ∷ past) + 2 ^ 32
         → AllByRecursion (λ m. ¬ IsInPlace line past p m) passed → passed ≡ []
-    none_passed line past earlier [] rest follows have last in_r in_s few_r few_s passes = refl
-    none_passed line past earlier (m ∷ passed) rest follows have last in_r in_s few_r few_s (here, passes) =
-        absurd (here (next_in_place line past earlier (passed ++ rest) m follows have last in_r in_s few_r few_s))
+    none_passed line past earlier [] rest follows have last = λ in_r in_s few_r few_s passes. refl
+    none_passed line past earlier (m ∷ passed) rest follows have last = λ in_r in_s few_r few_s passes.
+        absurd (passes.0 (next_in_place line past earlier (passed ++ rest) m follows have last in_r in_s few_r few_s))
 
     one_more : (line before : TurnLine) (past : List TurnLine) (earlier : List ToController) (m : ToController)
         → HaveLines p (before ∷ past) earlier
@@ -259,9 +259,9 @@ module _ (rules : Rules) (first : TurnLine) (p : ℕ) (start : is_drain_of p fir
         → line.rows_r + most_r ≤ lines_r p (line ∷ past) + 2 ^ 32
         → line.rows_s + most_s ≤ lines_s p (line ∷ past) + 2 ^ 32
         → AreCounted p (line ∷ past) ms → HaveLines p (line ∷ past) ms
-    all_have_lines line [] ms rest follows last in_r in_s few_r few_s are =
+    all_have_lines line [] ms rest follows last = λ in_r in_s few_r few_s are.
         rw are (record { causes = refl; counts = refl; drains = refl; rows_r = refl; rows_s = refl })
-    all_have_lines line (before ∷ past) ms rest (made, allowed, follows) last in_r in_s few_r few_s are =
+    all_have_lines line (before ∷ past) ms rest (made, allowed, follows) last = λ in_r in_s few_r few_s are.
         let e_r : line.rows_r ≡ before.rows_r + counted_r line.cause = ap (λ l. l.rows_r) made in
         let e_s : line.rows_s ≡ before.rows_s + counted_s line.cause = ap (λ l. l.rows_s) made in
         let small_r = cond_small (is_count_of p line.cause) (counted_r line.cause) in

@@ -61,7 +61,7 @@ module _ (joiners e : ℕ) (some : 0 < joiners) where
       → ((cond (not (m && true) && differs) (e + 1) e == e) ≡ false → ((j : ℕ) → has' j ≡ false) × (count' ≡ 0))
       → Steps joiners (cond (not (m && true) && differs) (e + 1) e) ((m && true) || (not (m && true) && differs))
       lines' has' count'
-  plain_step true differs lines lines' has has' count count' steps same kept fresh =
+  plain_step true differs lines lines' has has' count count' = λ steps same kept fresh.
       let old = kept (eq-eqb e e refl) in
       let sum = total_same joiners lines' lines (λ j low. same j) in
       record {
@@ -70,7 +70,7 @@ module _ (joiners e : ℕ) (some : 0 < joiners) where
         all = λ m. omega (arith, old.1, steps.all refl);
         few = λ m. omega (arith, old.1, steps.few refl);
       }
-  plain_step false differs lines lines' has has' count count' steps same kept fresh =
+  plain_step false differs lines lines' has has' count count' = λ steps same kept fresh.
       may_begin differs lines' has' count' (λ j low. same j ∙ steps.still refl j low) fresh
 
   settle_step : (i : ℕ) (m ends differs : Bool) (lines lines' : ℕ → ℕ) (has has' : ℕ → Bool) (count count' : ℕ)
@@ -283,13 +283,13 @@ ends_still rules first line past n at_epoch not_moving follows counts = elim (ca
         → counted ++ held ≡ counting_from (first.epoch + 1) n
         → ((epoch : ℕ) (rest : List ℕ) → held ≡ epoch ∷ rest → epoch ≡ line.epoch
         → not (has_settled j (line ∷ past)) ≡ true → ⊥) → ⊥
-    stuck j true counted held m is lines less each splits held_is = omega arith
-    stuck j false counted [] m is lines less each splits held_is =
+    stuck j true counted held m is lines = λ less each splits held_is. omega arith
+    stuck j false counted [] m is lines = λ less each splits held_is.
         let all = ap length splits in
         let nil : List ℕ = [] in
         let a = length-append counted nil in
         let b = length-counting_from (first.epoch + 1) n in
         omega arith
-    stuck j false counted (epoch ∷ rest) m is lines less each splits held_is =
+    stuck j false counted (epoch ∷ rest) m is lines = λ less each splits held_is.
         let at = at_place (first.epoch + 1) n counted epoch rest splits in
         held_is epoch rest refl (omega arith) (ap not (sym is))

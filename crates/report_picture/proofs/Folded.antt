@@ -84,35 +84,37 @@ helds_taken put takes id front (joiner ∷ joiners) =
     ∙ helds_taken put takes (id + 1) (front ++ joiner ∷ []) joiners
     ∙ ap put (append_assoc front (joiner ∷ []) joiners)
 
--- the lines of a report give what it has
-pub all_taken : (x y : ℕ) (steps : List Step) (growth : Option Growth) (later : List Step) (n m copies best : ℕ)
-    (joiners : List Joiner) → length steps ≤ 2 ^ 16 → length later ≤ 2 ^ 16 → (growth ≡ None → later ≡ [])
-    → fold taken nothing_yet (Input x y ∷ entries_behind steps growth later n m copies best joiners)
-    ≡ report_with x y steps growth later n m copies best joiners
-all_taken x y steps None later n m copies best joiners few few_later since =
-    let nothing : later ≡ [] = since refl in
-    let rest : List Step → List Entry =
-    λ behind. grids_from (length steps) behind ++ (Final n m copies best ∷ helds_from 0 joiners) in
-    fold-append taken (report_with x y [] None [] 1 1 0 0 []) (grids_from 0 steps) (rest later)
-    ∙ ap (λ report. fold taken report (rest later))
-    (grids_taken (λ front. report_with x y front None [] 1 1 0 0 []) (λ front epoch step. refl) 0 [] steps
-    (omega (arith, few)))
-    ∙ ap (λ behind. fold taken (report_with x y steps None [] 1 1 0 0 []) (rest behind)) nothing
-    ∙ helds_taken (λ front. report_with x y steps None [] n m copies best front) (λ front id joiner. refl) 0 [] joiners
-    ∙ ap (λ behind. report_with x y steps None behind n m copies best joiners) (sym nothing)
-all_taken x y steps (Some growth) later n m copies best joiners few few_later since =
-    let last : List Entry = Final n m copies best ∷ helds_from 0 joiners in
-    let rest : List Entry = Grow growth ∷ (grids_from (length steps) later ++ last) in
-    fold-append taken (report_with x y [] None [] 1 1 0 0 []) (grids_from 0 steps) rest
-    ∙ ap (λ report. fold taken report rest)
-    (grids_taken (λ front. report_with x y front None [] 1 1 0 0 []) (λ front epoch step. refl) 0 [] steps
-    (omega (arith, few)))
-    ∙ fold-append taken (report_with x y steps (Some growth) [] 1 1 0 0 []) (grids_from (length steps) later) last
-    ∙ ap (λ report. fold taken report last)
-    (grids_taken (λ front. report_with x y steps (Some growth) front 1 1 0 0 []) (λ front epoch step. refl)
-    (length steps) [] later (omega (arith, few_later)))
-    ∙ helds_taken (λ front. report_with x y steps (Some growth) later n m copies best front)
-    (λ front id joiner. refl) 0 [] joiners
+module _ (x y : ℕ) (steps : List Step) where
+  -- the lines of a report give what it has
+  pub all_taken : (growth : Option Growth) (later : List Step) (n m copies best : ℕ) (joiners : List Joiner)
+      → length steps ≤ 2 ^ 16 → length later ≤ 2 ^ 16 → (growth ≡ None → later ≡ [])
+      → fold taken nothing_yet (Input x y ∷ entries_behind steps growth later n m copies best joiners)
+      ≡ report_with x y steps growth later n m copies best joiners
+  all_taken None later n m copies best joiners few few_later since =
+      let nothing : later ≡ [] = since refl in
+      let rest : List Step → List Entry =
+      λ behind. grids_from (length steps) behind ++ (Final n m copies best ∷ helds_from 0 joiners) in
+      fold-append taken (report_with x y [] None [] 1 1 0 0 []) (grids_from 0 steps) (rest later)
+      ∙ ap (λ report. fold taken report (rest later))
+      (grids_taken (λ front. report_with x y front None [] 1 1 0 0 []) (λ front epoch step. refl) 0 [] steps
+      (omega (arith, few)))
+      ∙ ap (λ behind. fold taken (report_with x y steps None [] 1 1 0 0 []) (rest behind)) nothing
+      ∙ helds_taken (λ front. report_with x y steps None [] n m copies best front) (λ front id joiner. refl) 0 []
+      joiners
+      ∙ ap (λ behind. report_with x y steps None behind n m copies best joiners) (sym nothing)
+  all_taken (Some growth) later n m copies best joiners few few_later since =
+      let last : List Entry = Final n m copies best ∷ helds_from 0 joiners in
+      let rest : List Entry = Grow growth ∷ (grids_from (length steps) later ++ last) in
+      fold-append taken (report_with x y [] None [] 1 1 0 0 []) (grids_from 0 steps) rest
+      ∙ ap (λ report. fold taken report rest)
+      (grids_taken (λ front. report_with x y front None [] 1 1 0 0 []) (λ front epoch step. refl) 0 [] steps
+      (omega (arith, few)))
+      ∙ fold-append taken (report_with x y steps (Some growth) [] 1 1 0 0 []) (grids_from (length steps) later) last
+      ∙ ap (λ report. fold taken report last)
+      (grids_taken (λ front. report_with x y steps (Some growth) front 1 1 0 0 []) (λ front epoch step. refl)
+      (length steps) [] later (omega (arith, few_later)))
+      ∙ helds_taken (λ front. report_with x y steps (Some growth) later n m copies best front)
+      (λ front id joiner. refl) 0 [] joiners
 
 -- those of a whole report give it
 pub report_taken : (report : Report) → IsWhole report → fold taken nothing_yet (entries_of report) ≡ report

@@ -43,15 +43,16 @@ pub same_input : (report : Report) (x y wanted_x wanted_y : ℕ) → x ≡ wante
 same_input report x y wanted_x wanted_y same_x same_y =
     ap (λ k. taken report (Input k y)) same_x ∙ ap (λ k. taken report (Input wanted_x k)) same_y
 
--- and so do those of the last grid
-pub same_final : (report : Report) (n m copies best wanted_n wanted_m wanted_copies wanted_best : ℕ)
-    → n ≡ wanted_n → m ≡ wanted_m → copies ≡ wanted_copies → best ≡ wanted_best
-    → taken report (Final n m copies best) ≡ taken report (Final wanted_n wanted_m wanted_copies wanted_best)
-same_final report n m copies best wanted_n wanted_m wanted_copies wanted_best same_n same_m same_copies same_best =
-    ap (λ k. taken report (Final k m copies best)) same_n
-    ∙ ap (λ k. taken report (Final wanted_n k copies best)) same_m
-    ∙ ap (λ k. taken report (Final wanted_n wanted_m k best)) same_copies
-    ∙ ap (λ k. taken report (Final wanted_n wanted_m wanted_copies k)) same_best
+module _ (report : Report) (n m copies best : ℕ) where
+  -- and so do those of the last grid
+  pub same_final : (wanted_n wanted_m wanted_copies wanted_best : ℕ)
+      → n ≡ wanted_n → m ≡ wanted_m → copies ≡ wanted_copies → best ≡ wanted_best
+      → taken report (Final n m copies best) ≡ taken report (Final wanted_n wanted_m wanted_copies wanted_best)
+  same_final wanted_n wanted_m wanted_copies wanted_best same_n same_m same_copies same_best =
+      ap (λ k. taken report (Final k m copies best)) same_n
+      ∙ ap (λ k. taken report (Final wanted_n k copies best)) same_m
+      ∙ ap (λ k. taken report (Final wanted_n wanted_m k best)) same_copies
+      ∙ ap (λ k. taken report (Final wanted_n wanted_m wanted_copies k)) same_best
 
 -- one step more behind a growth
 pub grid_behind : (growth : Option Growth) (report : Report) (step : Step) → is_some growth ≡ true

@@ -42,33 +42,34 @@ may_begin_within text place may =
           absurd (false≢true (sym none ∙ may.input))
     ]
 
--- what is known of the last start is known behind one line more
-pub last_so_far : (text rest : List ℕ) (place len start start' : ℕ) → rest ≡ drop place text
-    → ((k : ℕ) → k < len → get_or rest k 0 ≢ 10)
-    → place < length text
-    → ((earlier : ℕ) → earlier < place → MayBegin text earlier
-    → (earlier ≤ start) × (start < place) × (start < length text))
-    → (MayBegin text place → start' ≡ place)
-    → ((start' ≡ start) ⊎ ((start' ≡ place) × MayBegin text place))
-    → (earlier : ℕ) → earlier < place + (len + 1) → MayBegin text earlier
-    → (earlier ≤ start') × (start' < place + (len + 1)) × (start' < length text)
-last_so_far text rest place len start start' same line inside last newest either earlier before may =
-    let Goal = (earlier ≤ start') × (start' < place + (len + 1)) × (start' < length text) in
-    elim (cases_eq earlier place) [
-      | inl here ↦
-          let new : start' ≡ place = newest (subst (λ e. MayBegin text e) here may) in
-          (omega (arith, new, here), omega (arith, new), omega (arith, new, inside))
-      | inr differ ↦
-          cond_both {A = ℕ} (nat_lt earlier place) 0 0 (λ _. Goal)
-          (λ e. let less : earlier < place = ltb-true earlier place e in
-          let old = last earlier less may in
-          elim either [
-            | inl kept ↦ (omega (arith, kept, old.0), omega (arith, kept, old.1), omega (arith, kept, old.2))
-            | inr new ↦ (omega (arith, new.0), omega (arith, new.0), omega (arith, new.0, inside))
-          ])
-          (λ e. let more : place ≤ earlier = ltb-false earlier place e in
-          absurd (none_within text rest place len earlier same line (omega arith) before may.line))
-    ]
+module _ (text rest : List ℕ) (place len start start' : ℕ) where
+  -- what is known of the last start is known behind one line more
+  pub last_so_far : rest ≡ drop place text
+      → ((k : ℕ) → k < len → get_or rest k 0 ≢ 10)
+      → place < length text
+      → ((earlier : ℕ) → earlier < place → MayBegin text earlier
+      → (earlier ≤ start) × (start < place) × (start < length text))
+      → (MayBegin text place → start' ≡ place)
+      → ((start' ≡ start) ⊎ ((start' ≡ place) × MayBegin text place))
+      → (earlier : ℕ) → earlier < place + (len + 1) → MayBegin text earlier
+      → (earlier ≤ start') × (start' < place + (len + 1)) × (start' < length text)
+  last_so_far same line inside last newest either earlier before may =
+      let Goal = (earlier ≤ start') × (start' < place + (len + 1)) × (start' < length text) in
+      elim (cases_eq earlier place) [
+        | inl here ↦
+            let new : start' ≡ place = newest (subst (λ e. MayBegin text e) here may) in
+            (omega (arith, new, here), omega (arith, new), omega (arith, new, inside))
+        | inr differ ↦
+            cond_both {A = ℕ} (nat_lt earlier place) 0 0 (λ _. Goal)
+            (λ e. let less : earlier < place = ltb-true earlier place e in
+            let old = last earlier less may in
+            elim either [
+              | inl kept ↦ (omega (arith, kept, old.0), omega (arith, kept, old.1), omega (arith, kept, old.2))
+              | inr new ↦ (omega (arith, new.0), omega (arith, new.0), omega (arith, new.0, inside))
+            ])
+            (λ e. let more : place ≤ earlier = ltb-false earlier place e in
+            absurd (none_within text rest place len earlier same line (omega arith) before may.line))
+      ]
 
 -- what was found is there
 pub there_so_far : (text : List ℕ) (place start start' : ℕ) → (start < length text → MayBegin text start)

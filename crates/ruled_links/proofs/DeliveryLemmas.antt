@@ -110,7 +110,7 @@ begins = let first = inbox_hand false true 0 [] [] [] in record {
 pub puts : (n pass : ℕ) (v : InboxHand) (x : Envelope) → v.puts ≡ true → number_of x.from ≡ v.sender
     → length v.sent < 2 ^ 62 → Pushes IsDelivered n pass v x
     (λ w. w ≡ inbox_hand v.puts v.takes v.sender (v.sent ++ x ∷ []) v.received v.known)
-puts n pass v x may is few items hands _ h at =
+puts n pass v x may is few = λ items hands _ h at.
     let w : InboxHand = inbox_hand v.puts v.takes v.sender (v.sent ++ x ∷ []) v.received v.known in
     let mine = h.fits pass v at in
     let own = mine.puts may in
@@ -235,54 +235,55 @@ stands_cut known n m s pass v left right hands seat at own may old has (no e) =
     subst (λ (k : ℕ). Stands (PutsFor m) (cut ++ right ∷ []) k) (seated_else n top seat m (λ x. e (sym x)))
     (q.0, at_front cut (seat m) q.0 right (set_else hands pass (seat m) left apart ∙ q.1), q.2)
 
--- a sender's pass is cut off the receiver's, which keeps its list as known
-cut : (n : ℕ) (s : List Envelope) (pass : ℕ) (v : InboxHand) → v.takes ≡ true → (v.puts ≡ true → v.sender ≡ n)
-    → (items : List Envelope) (hands : List InboxHand) (h : IsDelivered items hands) → get_elem? hands pass ≡ some v
-    → s ≡ of_sender n h.sent → ((j : ℕ) (u : InboxHand) → j ≢ pass → get_elem? hands j ≡ some u → u.puts ≡ true
-    → u.sender ≢ n)
-    → IsDelivered items (set hands pass (inbox_hand false true 0 [] v.received ((n, s) ∷ v.known))
-    ++ inbox_hand true false n s [] [] ∷ [])
-cut n s pass v may own items hands h at is apart =
-    let left : InboxHand = inbox_hand false true 0 [] v.received ((n, s) ∷ v.known) in
-    let right : InboxHand = inbox_hand true false n s [] [] in
-    let mine = (h.fits pass v at).takes may in
-    let vs : List InboxHand = set hands pass left in
-    let known : List (ℕ × List Envelope) = (n, s) ∷ h.known in
-    let seat : ℕ → ℕ = seated n (length vs) h.seat in
-    let Fit : ℕ → InboxHand → Type 0 = InboxFits seat h.receiver known h.sent h.received in
-    let old : Each Fit vs = Each-set Fit hands pass left
-    (record { puts = λ p. absurd (true≢false (sym p)); takes = λ _. (mine.0, mine.1, ap (λ ks. (n, s) ∷ ks) mine.2) })
-    (λ j u other e. let fit = h.fits j u e in record {
-      puts = λ p. (
-        (fit.puts p).0 ∙ seated_else n (length vs) h.seat u.sender (apart j u other e p),
-        (fit.puts p).1,
-        has_if (eqb n u.sender) (has_sender h.known u.sender) (fit.puts p).2,
-      );
-      takes = λ p. absurd (other ((fit.takes p).0 ∙ sym mine.0));
-    }) in
-    let stands = Stands-set (λ u. u.takes ≡ true) hands pass h.receiver v left at (λ _. refl) h.takes in
-    let new : Fit (length vs) right = record {
-      puts = λ _. (seated_here n (length vs) h.seat, is, has_here n s h.known);
-      takes = λ p. absurd (true≢false (sym p));
-    } in
-    record {
-      seat = seat;
-      receiver = h.receiver;
-      known = known;
-      sent = h.sent;
-      received = h.received;
-      joins = h.joins;
-      kept = λ m. kept_new h.known n m s (of_sender m h.sent)
-          (λ e. record { rest = []; joins = append-nil s ∙ is ∙ ap (λ (k : ℕ). of_sender k h.sent) e }) (h.kept m);
-      puts = λ m has. stands_cut h.known n m s pass v left right hands h.seat at own (
-        refl,
-        refl,
-      ) (h.puts m) has (ℕ_discrete n m);
-      takes = (stands.0, at_front vs h.receiver stands.0 right stands.1, stands.2);
-      fits = λ j u e. ⊎_elim (λ (x : get_elem? vs j ≡ some u). old j u x)
-          (λ (t : (j ≡ length vs) × (right ≡ u)). subst (λ (y : ℕ × InboxHand). Fit y.0 y.1) (λ i. (sym t.0 i, t.1 i))
-          new) (at_more vs right u j e);
-    }
+module _ (n : ℕ) (s : List Envelope) (pass : ℕ) (v : InboxHand) where
+  -- a sender's pass is cut off the receiver's, which keeps its list as known
+  cut : v.takes ≡ true → (v.puts ≡ true → v.sender ≡ n)
+      → (items : List Envelope) (hands : List InboxHand) (h : IsDelivered items hands) → get_elem? hands pass ≡ some v
+      → s ≡ of_sender n h.sent → ((j : ℕ) (u : InboxHand) → j ≢ pass → get_elem? hands j ≡ some u → u.puts ≡ true
+      → u.sender ≢ n)
+      → IsDelivered items (set hands pass (inbox_hand false true 0 [] v.received ((n, s) ∷ v.known))
+      ++ inbox_hand true false n s [] [] ∷ [])
+  cut may own items hands h at is apart =
+      let left : InboxHand = inbox_hand false true 0 [] v.received ((n, s) ∷ v.known) in
+      let right : InboxHand = inbox_hand true false n s [] [] in
+      let mine = (h.fits pass v at).takes may in
+      let vs : List InboxHand = set hands pass left in
+      let known : List (ℕ × List Envelope) = (n, s) ∷ h.known in
+      let seat : ℕ → ℕ = seated n (length vs) h.seat in
+      let Fit : ℕ → InboxHand → Type 0 = InboxFits seat h.receiver known h.sent h.received in
+      let old : Each Fit vs = Each-set Fit hands pass left
+      (record { puts = λ p. absurd (true≢false (sym p)); takes = λ _. (mine.0, mine.1, ap (λ ks. (n, s) ∷ ks) mine.2) })
+      (λ j u other e. let fit = h.fits j u e in record {
+        puts = λ p. (
+          (fit.puts p).0 ∙ seated_else n (length vs) h.seat u.sender (apart j u other e p),
+          (fit.puts p).1,
+          has_if (eqb n u.sender) (has_sender h.known u.sender) (fit.puts p).2,
+        );
+        takes = λ p. absurd (other ((fit.takes p).0 ∙ sym mine.0));
+      }) in
+      let stands = Stands-set (λ u. u.takes ≡ true) hands pass h.receiver v left at (λ _. refl) h.takes in
+      let new : Fit (length vs) right = record {
+        puts = λ _. (seated_here n (length vs) h.seat, is, has_here n s h.known);
+        takes = λ p. absurd (true≢false (sym p));
+      } in
+      record {
+        seat = seat;
+        receiver = h.receiver;
+        known = known;
+        sent = h.sent;
+        received = h.received;
+        joins = h.joins;
+        kept = λ m. kept_new h.known n m s (of_sender m h.sent)
+            (λ e. record { rest = []; joins = append-nil s ∙ is ∙ ap (λ (k : ℕ). of_sender k h.sent) e }) (h.kept m);
+        puts = λ m has. stands_cut h.known n m s pass v left right hands h.seat at own (
+          refl,
+          refl,
+        ) (h.puts m) has (ℕ_discrete n m);
+        takes = (stands.0, at_front vs h.receiver stands.0 right stands.1, stands.2);
+        fits = λ j u e. ⊎_elim (λ (x : get_elem? vs j ≡ some u). old j u x)
+            (λ (t : (j ≡ length vs) × (right ≡ u)). subst (λ (y : ℕ × InboxHand). Fit y.0 y.1) (λ i. (sym t.0 i, t.1 i))
+            new) (at_more vs right u j e);
+      }
 
 -- a pass for a new sender is cut off the receiver's, and the rule stays: that one has sent nothing
 pub opens : (n pass : ℕ) (v : InboxHand) → v.takes ≡ true → v.puts ≡ false → has_sender v.known n ≡ false
@@ -335,7 +336,7 @@ stands_met n m pass other v u both spent hands seat at none at' is two may q (no
 pub meets : (pass : ℕ) (v : InboxHand) (other : ℕ) (u : InboxHand) → v.takes ≡ true → v.puts ≡ false → u.puts ≡ true
     → Merges IsDelivered pass v other u (inbox_hand true true u.sender u.sent v.received v.known)
     (inbox_hand false false 0 [] [] [])
-meets pass v other u may_take none may_put items hands h at two at' =
+meets pass v other u may_take none may_put = λ items hands h at two at'.
     let both : InboxHand = inbox_hand true true u.sender u.sent v.received v.known in
     let spent : InboxHand = inbox_hand false false 0 [] [] [] in
     let mine = (h.fits pass v at).takes may_take in

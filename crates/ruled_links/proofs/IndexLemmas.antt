@@ -29,11 +29,12 @@ set_map f (x ∷ xs) zero d lt h = λ i. f x ∷ sym (map_same f xs d (λ k less
 set_map f (x ∷ xs) (suc k) d lt h = λ i. sym (h 0 (omega arith) (omega arith)) i
     ∷ set_map f xs k d (omega arith) (λ j less other. h (suc j) (omega arith) (omega arith)) i
 
--- what is found by a number is the only part of that number
-only : (places : List ℕ) (ps : List Part) (n k i : ℕ) (d : Part) → IsIndexed places ps → k < length ps
-    → number_of (get_or ps k d).from ≡ n → i < length ps → i ≢ k → number_of (get_or ps i d).from ≢ n
-only places ps n k i d h lt is less other e =
-    other (sym (h i d less).1 ∙ ap (λ (m : ℕ). get_or places m 0) (e ∙ sym is) ∙ (h k d lt).1)
+module _ (places : List ℕ) (ps : List Part) (n : ℕ) where
+  -- what is found by a number is the only part of that number
+  only : (k i : ℕ) (d : Part) → IsIndexed places ps → k < length ps
+      → number_of (get_or ps k d).from ≡ n → i < length ps → i ≢ k → number_of (get_or ps i d).from ≢ n
+  only k i d h lt is less other e =
+      other (sym (h i d less).1 ∙ ap (λ (m : ℕ). get_or places m 0) (e ∙ sym is) ∙ (h k d lt).1)
 
 noted_other : (n : ℕ) (p : Part) → number_of p.from ≢ n → noted n p ≡ p
 noted_other n p e = ap (λ (b : Bool). cond b (record { from = p.from; taken = p.taken + 1; known = p.known - 1 }) p)
@@ -110,7 +111,7 @@ pub index_push : (places wider : List ℕ) (ps : List Part) (p : Part) → IsInd
     → has_part (number_of p.from) ps ≡ false → number_of p.from < length wider → length places ≤ length wider
     → ((k : ℕ) → k < length places → get_or wider k 0 ≡ get_or places k 0)
     → IsIndexed (set wider (number_of p.from) (length ps)) (ps ++ p ∷ [])
-index_push places wider ps p h new room longer same k d lt = let n = number_of p.from in
+index_push places wider ps p h new room longer same = λ k d lt. let n = number_of p.from in
     elim (ℕ_discrete k (length ps)) [
       | yes e ↦ let here : get_or (ps ++ p ∷ []) k d ≡ p = get_or-append_right ps (p ∷ []) (length ps) k d refl
           (omega arith) ∙ ap (λ (j : ℕ). get_or (p ∷ []) j d) (let z : k - length ps ≡ 0 = omega arith in z) in

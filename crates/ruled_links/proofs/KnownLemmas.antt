@@ -196,16 +196,17 @@ counted_open v w p ps is none taken known new h = subst (λ (u : InboxHand). Are
       few = subst (λ (n : ℕ). n < 2 ^ 64) (sym (sum_push ps p known)) h.few;
     })
 
--- so many are found left of one sender
-pub counted_tell : (v w : InboxHand) (n k : ℕ) (s items : List Envelope) (ps : List Part)
-    → w ≡ inbox_hand false true 0 [] v.received ((n, s) ∷ v.known) → k ≡ length s - length (of_sender n v.received)
-    → k ≤ length (of_sender n items) → has_part n ps ≡ true
-    → ((m : ℕ) → length (known_of v.known m) ≤ length (of_sender m v.received) + length (of_sender m items))
-    → length items < 2 ^ 64 → AreCounted v ps → AreCounted w (map (set_known n k) ps)
-counted_tell v w n k s items ps is left less has lesson fits h =
-    subst (λ (u : InboxHand). AreCounted u (map (set_known n k) ps)) (sym is) (record {
-      fits = tells_fit v n k s ps left h.fits;
-      all = λ m none. named_still n s v.known ps has h.all m (sym (named_tells n k m ps) ∙ none);
-      distinct = distinct_tells n k ps h.distinct;
-      few = below (sum_tells v n k items ps h.distinct h.fits less lesson) fits;
-    })
+module _ (v w : InboxHand) (n k : ℕ) (s items : List Envelope) (ps : List Part) where
+  -- so many are found left of one sender
+  pub counted_tell : w ≡ inbox_hand false true 0 [] v.received ((n, s) ∷ v.known)
+      → k ≡ length s - length (of_sender n v.received)
+      → k ≤ length (of_sender n items) → has_part n ps ≡ true
+      → ((m : ℕ) → length (known_of v.known m) ≤ length (of_sender m v.received) + length (of_sender m items))
+      → length items < 2 ^ 64 → AreCounted v ps → AreCounted w (map (set_known n k) ps)
+  counted_tell is left less has lesson fits h =
+      subst (λ (u : InboxHand). AreCounted u (map (set_known n k) ps)) (sym is) (record {
+        fits = tells_fit v n k s ps left h.fits;
+        all = λ m none. named_still n s v.known ps has h.all m (sym (named_tells n k m ps) ∙ none);
+        distinct = distinct_tells n k ps h.distinct;
+        few = below (sum_tells v n k items ps h.distinct h.fits less lesson) fits;
+      })

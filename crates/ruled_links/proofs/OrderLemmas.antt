@@ -142,7 +142,7 @@ parts pass v may_put may_take items hands h at =
 -- the sender's pass is joined into the receiver's, and the rule stays
 pub meets : (pass : ℕ) (v : Hand) (other : ℕ) (u : Hand) → v.takes ≡ true → u.puts ≡ true
     → Merges IsInOrder pass v other u (hand true true u.sent v.received v.known) (hand false false [] [] [])
-meets pass v other u may_take may_put items hands h at two at' =
+meets pass v other u may_take may_put = λ items hands h at two at'.
     let both : Hand = hand true true u.sent v.received v.known in
     let mine = (h.fits pass v at).takes may_take in
     let spent : Hand = hand false false [] [] [] in

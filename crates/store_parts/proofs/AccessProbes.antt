@@ -88,14 +88,15 @@ pub admitted_of_stands : (access : Access) (t : Tuple) (others : List Tuple)
 admitted_of_stands access t others =
     filter_of_filter (is_admitted access t) (does_stand access t) (admitted_stands access t) others
 
--- the places that are kept of those that the index gave are of the tuples that agree
-pub those_kept : (access : Access) (t : Tuple) (others seen : List Tuple) (given looked kept : List ℕ)
-    → seen ≡ others → looked ≡ given → at_places others given ≡ filter (does_stand access t) others
-    → at_places seen kept ≡ filter (is_admitted access t) (at_places seen looked)
-    → at_places seen kept ≡ filter (is_admitted access t) others
-those_kept access t others seen given looked kept same read stood sifted =
-    let stands = ap (λ (xs : List Tuple). at_places xs looked) same ∙ ap (at_places others) read ∙ stood in
-    sifted ∙ ap (filter (is_admitted access t)) stands ∙ admitted_of_stands access t others
+module _ (access : Access) (t : Tuple) (others : List Tuple) where
+  -- the places that are kept of those that the index gave are of the tuples that agree
+  pub those_kept : (seen : List Tuple) (given looked kept : List ℕ)
+      → seen ≡ others → looked ≡ given → at_places others given ≡ filter (does_stand access t) others
+      → at_places seen kept ≡ filter (is_admitted access t) (at_places seen looked)
+      → at_places seen kept ≡ filter (is_admitted access t) others
+  those_kept seen given looked kept same read stood sifted =
+      let stands = ap (λ (xs : List Tuple). at_places xs looked) same ∙ ap (at_places others) read ∙ stood in
+      sifted ∙ ap (filter (is_admitted access t)) stands ∙ admitted_of_stands access t others
 
 -- ---- one more place
 
@@ -107,28 +108,29 @@ filter_more p others places i place other at here =
     ap (filter p) (at_places_more others places i place other at here)
     ∙ filter-append p (at_places others (take i places)) (other ∷ [])
 
--- a place whose tuple passes is kept: at the kept places are still the tuples so far that pass
-pub kept_one : (p : Tuple → Bool) (others : List Tuple) (places kept : List ℕ) (i place : ℕ) (other : Tuple)
-    → slice_get places i ≡ Some place → slice_get others place ≡ Some other
-    → at_places others kept ≡ filter p (at_places others (take i places)) → p other ≡ true
-    → at_places others (kept ++ place ∷ []) ≡ filter p (at_places others (take (i + 1) places))
-kept_one p others places kept i place other at here so_far is =
-    at_places-append others kept (place ∷ [])
-    ∙ ap (λ xs. xs ++ at_places others (place ∷ [])) so_far
-    ∙ ap (λ xs. filter p (at_places others (take i places)) ++ xs)
-    (at_place others place other here ∙ sym (ap (λ c. cond c (other ∷ []) []) is))
-    ∙ sym (filter_more p others places i place other at here)
+module _ (p : Tuple → Bool) (others : List Tuple) (places kept : List ℕ) where
+  -- a place whose tuple passes is kept: at the kept places are still the tuples so far that pass
+  pub kept_one : (i place : ℕ) (other : Tuple)
+      → slice_get places i ≡ Some place → slice_get others place ≡ Some other
+      → at_places others kept ≡ filter p (at_places others (take i places)) → p other ≡ true
+      → at_places others (kept ++ place ∷ []) ≡ filter p (at_places others (take (i + 1) places))
+  kept_one i place other at here so_far is =
+      at_places-append others kept (place ∷ [])
+      ∙ ap (λ xs. xs ++ at_places others (place ∷ [])) so_far
+      ∙ ap (λ xs. filter p (at_places others (take i places)) ++ xs)
+      (at_place others place other here ∙ sym (ap (λ c. cond c (other ∷ []) []) is))
+      ∙ sym (filter_more p others places i place other at here)
 
--- a place whose tuple doesn't pass is left out: at the kept places they still are
-pub kept_none : (p : Tuple → Bool) (others : List Tuple) (places kept : List ℕ) (i place : ℕ) (other : Tuple)
-    → slice_get places i ≡ Some place → slice_get others place ≡ Some other
-    → at_places others kept ≡ filter p (at_places others (take i places)) → p other ≡ false
-    → at_places others kept ≡ filter p (at_places others (take (i + 1) places))
-kept_none p others places kept i place other at here so_far is =
-    so_far
-    ∙ sym (append-nil (filter p (at_places others (take i places))))
-    ∙ ap (λ xs. filter p (at_places others (take i places)) ++ xs) (sym (ap (λ c. cond c (other ∷ []) []) is))
-    ∙ sym (filter_more p others places i place other at here)
+  -- a place whose tuple doesn't pass is left out: at the kept places they still are
+  pub kept_none : (i place : ℕ) (other : Tuple)
+      → slice_get places i ≡ Some place → slice_get others place ≡ Some other
+      → at_places others kept ≡ filter p (at_places others (take i places)) → p other ≡ false
+      → at_places others kept ≡ filter p (at_places others (take (i + 1) places))
+  kept_none i place other at here so_far is =
+      so_far
+      ∙ sym (append-nil (filter p (at_places others (take i places))))
+      ∙ ap (λ xs. filter p (at_places others (take i places)) ++ xs) (sym (ap (λ c. cond c (other ∷ []) []) is))
+      ∙ sym (filter_more p others places i place other at here)
 
 -- ---- what is found, and how many are evaluated
 

@@ -300,19 +300,19 @@ gathered-beyond (Some ends) window entries all beyond = none_gathered ends windo
 
 -- ---- windows one after another
 
--- one window more was gathered
-pub one_window_more : (windows : List Window) (i : ℕ) (d : Window) (entries : List (ℤ × SmallVec ℕ))
-    (found more new whole : List ℕ) → i < length windows
-    → found ++ gathered_in (drop i windows) entries ≡ whole
-    → more ≡ gathered_at (get_or windows i d) entries → new ≡ found ++ more
-    → new ++ gathered_in (drop (i + 1) windows) entries ≡ whole
-one_window_more windows i d entries found more new whole less so_far is pushed =
-    let rest = gathered_in (drop (i + 1) windows) entries in
-    ap (λ xs. xs ++ rest) (pushed ∙ ap (λ xs. found ++ xs) is)
-    ∙ append_assoc found (gathered_at (get_or windows i d) entries) rest
-    ∙ ap (λ ws. found ++ gathered_in ws entries) (sym (drop-cons windows i d less
-    ∙ ap (λ n. get_or windows i d ∷ drop n windows) (sym (add-one i))))
-    ∙ so_far
+module _ (windows : List Window) (i : ℕ) (d : Window) (entries : List (ℤ × SmallVec ℕ)) where
+  -- one window more was gathered
+  pub one_window_more : (found more new whole : List ℕ) → i < length windows
+      → found ++ gathered_in (drop i windows) entries ≡ whole
+      → more ≡ gathered_at (get_or windows i d) entries → new ≡ found ++ more
+      → new ++ gathered_in (drop (i + 1) windows) entries ≡ whole
+  one_window_more found more new whole less so_far is pushed =
+      let rest = gathered_in (drop (i + 1) windows) entries in
+      ap (λ xs. xs ++ rest) (pushed ∙ ap (λ xs. found ++ xs) is)
+      ∙ append_assoc found (gathered_at (get_or windows i d) entries) rest
+      ∙ ap (λ ws. found ++ gathered_in ws entries) (sym (drop-cons windows i d less
+      ∙ ap (λ n. get_or windows i d ∷ drop n windows) (sym (add-one i))))
+      ∙ so_far
 
 -- a window was passed over that gives no places
 pub no_window_more : (windows : List Window) (i : ℕ) (d : Window) (entries : List (ℤ × SmallVec ℕ))

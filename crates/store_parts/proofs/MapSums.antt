@@ -63,23 +63,23 @@ sum-insert_entry cmp F k v (e ∷ es) none =
 
 -- ---- another value at a key
 
-set_at : {K X : Type 0} (test : K → Bool) (F : K × X → ℕ) (v w : X) (more : ℕ) (b : Bool) (e : K
-    × X) (es : List (K × X))
-    → test e.0 ≡ b → ((q : K) → test q ≡ true → F (q, w) ≡ F (q, v) + more)
-    → cond b (Some e.1) (lookup test es) ≡ Some v → (lookup test es ≡ Some v
-    → sum_by F (set_value test es w) ≡ sum_by F es + more)
-    → sum_by F (cond b ((e.0, w) ∷ es) (e ∷ set_value test es w)) ≡ sum_by F (e ∷ es) + more
-set_at test F v w more true e es here grows found rest =
-    let was : e.1 ≡ v = cc in
-    let old = ap (λ x. F (e.0, x)) was in
-    let new = grows e.0 here in
-    omega (arith, sum_by-cons F (e.0, w) es, sum_by-cons F e es, old, new)
-set_at test F v w more false e es here grows found rest = omega (
-  arith,
-  sum_by-cons F e (set_value test es w),
-  sum_by-cons F e es,
-  rest found,
-)
+module _ {K X : Type 0} (test : K → Bool) (F : K × X → ℕ) (v w : X) (more : ℕ) where
+  set_at : (b : Bool) (e : K × X) (es : List (K × X))
+      → test e.0 ≡ b → ((q : K) → test q ≡ true → F (q, w) ≡ F (q, v) + more)
+      → cond b (Some e.1) (lookup test es) ≡ Some v → (lookup test es ≡ Some v
+      → sum_by F (set_value test es w) ≡ sum_by F es + more)
+      → sum_by F (cond b ((e.0, w) ∷ es) (e ∷ set_value test es w)) ≡ sum_by F (e ∷ es) + more
+  set_at true e es here grows found rest =
+      let was : e.1 ≡ v = cc in
+      let old = ap (λ x. F (e.0, x)) was in
+      let new = grows e.0 here in
+      omega (arith, sum_by-cons F (e.0, w) es, sum_by-cons F e es, old, new)
+  set_at false e es here grows found rest = omega (
+    arith,
+    sum_by-cons F e (set_value test es w),
+    sum_by-cons F e es,
+    rest found,
+  )
 
 -- another value set at a key changes a sum over the entries by what the term of that key grows
 pub sum-set_value : {K X : Type 0} (test : K → Bool) (F : K × X → ℕ) (v w : X) (more : ℕ) (es : List (K × X))
@@ -166,44 +166,44 @@ ordered_put v w None old new sorted is put =
     λ F. ap (sum_by F) put ∙ sum-insert_entry int_cmp F v w old is
 ordered_put v w (Some p) old new sorted is put = put ∙ inserted_is_set int_cmp_total v p w old sorted is
 
-sum-put : (F : ℤ × SmallVec ℕ → ℕ) (v : ℤ) (empty w : SmallVec ℕ) (more : ℕ) (old new : List (ℤ × SmallVec ℕ))
-    (found : Option (SmallVec ℕ))
-    → lookup (is_at (int_cmp v)) old ≡ found → IsPut v w found old new → F (v, empty) ≡ 0
-    → ((q : ℤ) → q ≡ v → F (q, w) ≡ F (q, unwrap_or found empty) + more) → sum_by F new ≡ sum_by F old + more
-sum-put F v empty w more old new None is put zero grows =
-    let here : F (v, w) ≡ F (v, empty) + more = grows v refl in
-    omega (arith, put F, zero, here)
-sum-put F v empty w more old new (Some p) is put zero grows =
-    ap (sum_by F) put ∙ sum-set_value (is_at (int_cmp v)) F p w more old (λ q hit. grows q (finds_only v q hit)) is
+module _ (F : ℤ × SmallVec ℕ → ℕ) (v : ℤ) (empty w : SmallVec ℕ) (more : ℕ) where
+  sum-put : (old new : List (ℤ × SmallVec ℕ)) (found : Option (SmallVec ℕ))
+      → lookup (is_at (int_cmp v)) old ≡ found → IsPut v w found old new → F (v, empty) ≡ 0
+      → ((q : ℤ) → q ≡ v → F (q, w) ≡ F (q, unwrap_or found empty) + more) → sum_by F new ≡ sum_by F old + more
+  sum-put old new None is put zero grows =
+      let here : F (v, w) ≡ F (v, empty) + more = grows v refl in
+      omega (arith, put F, zero, here)
+  sum-put old new (Some p) is put zero grows =
+      ap (sum_by F) put ∙ sum-set_value (is_at (int_cmp v)) F p w more old (λ q hit. grows q (finds_only v q hit)) is
 
 at_empty : (f : ℤ × ℕ → ℕ) (v : ℤ) (empty : SmallVec ℕ) → empty.items ≡ [] → at_each f (v, empty) ≡ 0
 at_empty f v empty none = ap (λ xs. sum_by (λ x. f (v, x)) xs) none
 
--- an entry put with the places that it had, none where there was no entry, leaves the map's values as they are
-pub map_put_kept : (values : List (Option ℤ)) (v : ℤ) (old new : List (ℤ × SmallVec ℕ)) (empty w : SmallVec ℕ)
-    (found : Option (SmallVec ℕ))
-    → lookup (is_at (int_cmp v)) old ≡ found → IsPut v w found old new → empty.items ≡ []
-    → w.items ≡ (unwrap_or found empty).items
-    → IsMapOf values old → IsMapOf values new
-map_put_kept values v old new empty w found is put none same h = record {
-  sums = λ f.
-      let set = sum-put (at_each f) v empty w 0 old new found is put (at_empty f v empty none)
-      (λ q at. no_more f q (unwrap_or found empty) w same) in
-      omega (arith, set, h.sums f);
-}
+module _ (values : List (Option ℤ)) (v : ℤ) (old new : List (ℤ × SmallVec ℕ)) (empty w : SmallVec ℕ)
+    (found : Option (SmallVec ℕ)) where
+  -- an entry put with the places that it had, none where there was no entry, leaves the map's values as they are
+  pub map_put_kept : lookup (is_at (int_cmp v)) old ≡ found → IsPut v w found old new → empty.items ≡ []
+      → w.items ≡ (unwrap_or found empty).items
+      → IsMapOf values old → IsMapOf values new
+  map_put_kept is put none same h = record {
+    sums = λ f.
+        let set = sum-put (at_each f) v empty w 0 old new found is put (at_empty f v empty none)
+        (λ q at. no_more f q (unwrap_or found empty) w same) in
+        omega (arith, set, h.sums f);
+  }
 
--- once it is put with the next place behind these, the map has that place's value as one more
-pub map_put_pushed : (values : List (Option ℤ)) (v : ℤ) (n : ℕ) (old new : List (ℤ × SmallVec ℕ)) (empty w : SmallVec ℕ)
-    (found : Option (SmallVec ℕ))
-    → lookup (is_at (int_cmp v)) old ≡ found → IsPut v w found old new → empty.items ≡ []
-    → w.items ≡ (unwrap_or found empty).items ++ n ∷ []
-    → length values ≡ n → IsMapOf values old → IsMapOf (values ++ Some v ∷ []) new
-map_put_pushed values v n old new empty w found is put none pushed at_end h = record {
-  sums = λ f.
-      let set = sum-put (at_each f) v empty w (f (v, n)) old new found is put (at_empty f v empty none)
-      (λ q at. one_more f q v n (unwrap_or found empty) w pushed at) in
-      omega (arith, set, h.sums f, value_more f values v n at_end);
-}
+module _ (values : List (Option ℤ)) (v : ℤ) (n : ℕ) (old new : List (ℤ × SmallVec ℕ)) (empty w : SmallVec ℕ)
+    (found : Option (SmallVec ℕ)) where
+  -- once it is put with the next place behind these, the map has that place's value as one more
+  pub map_put_pushed : lookup (is_at (int_cmp v)) old ≡ found → IsPut v w found old new → empty.items ≡ []
+      → w.items ≡ (unwrap_or found empty).items ++ n ∷ []
+      → length values ≡ n → IsMapOf values old → IsMapOf (values ++ Some v ∷ []) new
+  map_put_pushed is put none pushed at_end h = record {
+    sums = λ f.
+        let set = sum-put (at_each f) v empty w (f (v, n)) old new found is put (at_empty f v empty none)
+        (λ q at. one_more f q v n (unwrap_or found empty) w pushed at) in
+        omega (arith, set, h.sums f, value_more f values v n at_end);
+  }
 
 -- ---- a tuple with no value
 

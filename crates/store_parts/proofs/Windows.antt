@@ -16,18 +16,19 @@ use Rattle.store_parts.specs.Stands.{class_of, windows_from, windows_of}
 
 -- ---- clamped values
 
-clamp_rises : (a b : ℤ) (p q p' q' : Bool) → int_le a (neg_ℤ edge) ≡ p → int_le a edge ≡ q
-    → int_le b (neg_ℤ edge) ≡ p' → int_le b edge ≡ q' → int_le a b ≡ true
-    → int_le (cond p (neg_ℤ edge) (cond q a edge)) (cond p' (neg_ℤ edge) (cond q' b edge)) ≡ true
-clamp_rises a b true q true q' is_p is_q is_p' is_q' le = grind (arith, ints)
-clamp_rises a b true q false true is_p is_q is_p' is_q' le = grind (arith, ints, is_p')
-clamp_rises a b true q false false is_p is_q is_p' is_q' le = grind (arith, ints)
-clamp_rises a b false true true q' is_p is_q is_p' is_q' le = grind (arith, ints, is_p, is_p', le)
-clamp_rises a b false true false true is_p is_q is_p' is_q' le = le
-clamp_rises a b false true false false is_p is_q is_p' is_q' le = is_q
-clamp_rises a b false false true q' is_p is_q is_p' is_q' le = grind (arith, ints, is_p, is_p', le)
-clamp_rises a b false false false true is_p is_q is_p' is_q' le = grind (arith, ints, is_q, is_q', le)
-clamp_rises a b false false false false is_p is_q is_p' is_q' le = grind (arith, ints)
+module _ (a b : ℤ) where
+  clamp_rises : (p q p' q' : Bool) → int_le a (neg_ℤ edge) ≡ p → int_le a edge ≡ q
+      → int_le b (neg_ℤ edge) ≡ p' → int_le b edge ≡ q' → int_le a b ≡ true
+      → int_le (cond p (neg_ℤ edge) (cond q a edge)) (cond p' (neg_ℤ edge) (cond q' b edge)) ≡ true
+  clamp_rises true q true q' is_p is_q is_p' is_q' le = grind (arith, ints)
+  clamp_rises true q false true is_p is_q is_p' is_q' le = grind (arith, ints, is_p')
+  clamp_rises true q false false is_p is_q is_p' is_q' le = grind (arith, ints)
+  clamp_rises false true true q' is_p is_q is_p' is_q' le = grind (arith, ints, is_p, is_p', le)
+  clamp_rises false true false true is_p is_q is_p' is_q' le = le
+  clamp_rises false true false false is_p is_q is_p' is_q' le = is_q
+  clamp_rises false false true q' is_p is_q is_p' is_q' le = grind (arith, ints, is_p, is_p', le)
+  clamp_rises false false false true is_p is_q is_p' is_q' le = grind (arith, ints, is_q, is_q', le)
+  clamp_rises false false false false is_p is_q is_p' is_q' le = grind (arith, ints)
 
 clamped_rises : (a b : ℤ) → int_le a b ≡ true → int_le (clamped a) (clamped b) ≡ true
 clamped_rises a b le = clamp_rises a b _ _ _ _ refl refl refl refl le
@@ -118,9 +119,9 @@ class_picked : (b : Bool) (left class : ℕ) (hash first last x most : ℤ) → 
     (Some (stand hash (pos (class_from left (class + 1) (next_most most) (last -ℤ first))) first)) ≡ true
     → lies_in (windows_from (suc left) hash class most x)
     (Some (stand hash (pos (cond b class (class_from left (class + 1) (next_most most) (last -ℤ first)))) first)) ≡ true
-class_picked true left class hash first last x most is from to rest =
+class_picked true left class hash first last x most = λ is from to rest.
     or_left _ _ (window_holds hash (pos class) first last x most from to is)
-class_picked false left class hash first last x most is from to rest = or_right _ _ rest
+class_picked false left class hash first last x most = λ is from to rest. or_right _ _ rest
 
 class_holds : (left class : ℕ) (hash first last x most : ℤ) → int_le first x ≡ true → int_le x last ≡ true
     → int_le (last -ℤ first) (most_after left most) ≡ true
@@ -213,13 +214,14 @@ windows_apart hash x = classes_apart 18 0 hash (pos 0) x
 pub one_apart : (it : Window) → AreApart (it ∷ [])
 one_apart it = (λ v is. refl, tt)
 
--- one window more
-pub windows_more : (old pushed : List Window) (it : Window) (left n : ℕ) (hash : ℤ) (class : ℕ) (most next x : ℤ)
-    → pushed ≡ old ++ it ∷ [] → it ≡ window hash (pos class) (x -ℤ most) x → next ≡ next_most most → left ≡ n + 1
-    → pushed ++ windows_from n hash (class + 1) next x ≡ old ++ windows_from left hash class most x
-windows_more old pushed it left n hash class most next x is here after one =
-    let rest = windows_from n hash (class + 1) next x in
-    ap (λ ws. ws ++ rest) (is ∙ ap (λ w. old ++ w ∷ []) here)
-    ∙ append_assoc old (window hash (pos class) (x -ℤ most) x ∷ []) rest
-    ∙ ap (λ m. old ++ window hash (pos class) (x -ℤ most) x ∷ windows_from n hash (class + 1) m x) after
-    ∙ ap (λ k. old ++ windows_from k hash class most x) (sym (one ∙ add-one n))
+module _ (old pushed : List Window) (it : Window) (left n : ℕ) (hash : ℤ) (class : ℕ) where
+  -- one window more
+  pub windows_more : (most next x : ℤ)
+      → pushed ≡ old ++ it ∷ [] → it ≡ window hash (pos class) (x -ℤ most) x → next ≡ next_most most → left ≡ n + 1
+      → pushed ++ windows_from n hash (class + 1) next x ≡ old ++ windows_from left hash class most x
+  windows_more most next x is here after one =
+      let rest = windows_from n hash (class + 1) next x in
+      ap (λ ws. ws ++ rest) (is ∙ ap (λ w. old ++ w ∷ []) here)
+      ∙ append_assoc old (window hash (pos class) (x -ℤ most) x ∷ []) rest
+      ∙ ap (λ m. old ++ window hash (pos class) (x -ℤ most) x ∷ windows_from n hash (class + 1) m x) after
+      ∙ ap (λ k. old ++ windows_from k hash class most x) (sym (one ∙ add-one n))

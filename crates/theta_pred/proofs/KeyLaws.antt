@@ -134,23 +134,23 @@ one_parted r s minus (numbers.Given v) x is =
     )
 one_parted r s minus (numbers.Cell column) x is = at_side r s column.side minus column.place x is
 
-more_parted : (r s : List Cell) (minus : Bool) (number : Number) (rest : List SignedTerm) (x y z a b c d : ℤ)
-    → IsOneParted r s minus number y a b
-    → IsParted r s rest z c d → y +ℤ z ≡ x
-    → (a : ℤ) × (b : ℤ) × IsParted r s (record { minus = minus; number = number } ∷ rest) x a b
-more_parted r s minus number rest x y z a b c d first others sums =
-    let one = first.whole in
-    let many = others.whole in (
-      a +ℤ c,
-      b +ℤ d,
-      record {
-        r_plain = value_of-both _ _ r a c _ first.r_plain others.r_plain refl;
-        r_turned = value_of-both _ _ r (neg_ℤ a) (neg_ℤ c) _ first.r_turned others.r_turned (omega (arith, ints));
-        s_plain = value_of-both _ _ s b d _ first.s_plain others.s_plain refl;
-        s_turned = value_of-both _ _ s (neg_ℤ b) (neg_ℤ d) _ first.s_turned others.s_turned (omega (arith, ints));
-        whole = omega (arith, ints, one, many, sums);
-      },
-    )
+module _ (r s : List Cell) (minus : Bool) (number : Number) (rest : List SignedTerm) where
+  more_parted : (x y z a b c d : ℤ) → IsOneParted r s minus number y a b
+      → IsParted r s rest z c d → y +ℤ z ≡ x
+      → (a : ℤ) × (b : ℤ) × IsParted r s (record { minus = minus; number = number } ∷ rest) x a b
+  more_parted x y z a b c d first others sums =
+      let one = first.whole in
+      let many = others.whole in (
+        a +ℤ c,
+        b +ℤ d,
+        record {
+          r_plain = value_of-both _ _ r a c _ first.r_plain others.r_plain refl;
+          r_turned = value_of-both _ _ r (neg_ℤ a) (neg_ℤ c) _ first.r_turned others.r_turned (omega (arith, ints));
+          s_plain = value_of-both _ _ s b d _ first.s_plain others.s_plain refl;
+          s_turned = value_of-both _ _ s (neg_ℤ b) (neg_ℤ d) _ first.s_turned others.s_turned (omega (arith, ints));
+          whole = omega (arith, ints, one, many, sums);
+        },
+      )
 
 parted : (r s : List Cell) (xs : List SignedTerm) (x : ℤ) → sum_of r s xs ≡ Some x → (a : ℤ) × (b : ℤ)
     × IsParted r s xs x a b
@@ -180,25 +180,25 @@ between_is : (low high o p : Option ℤ) (x y : ℤ) → o ≡ Some x → p ≡ 
     → is_between low high o p ≡ (is_from low (x -ℤ y) && is_up_to high (x -ℤ y))
 between_is low high o p x y is_x is_y = ap (λ q. is_between low high q p) is_x ∙ ap (is_between low high (Some x)) is_y
 
--- where two sums have numbers, the atom of their difference is true if what the columns come to is in its bounds
-pub difference_true : (r s : List Cell) (left right : List SignedTerm) (low high : Option ℤ) (x y : ℤ)
-    → sum_of r s left ≡ Some x → sum_of r s right ≡ Some y
-    → ((gap : ℤ) → x -ℤ y ≡ gap +ℤ (constant_of left -ℤ constant_of right)
-    → (is_from low gap && is_up_to high gap) ≡ true)
-    → is_atom_true (difference left right low high) r s ≡ true
-difference_true r s left right low high x y is_x is_y bounds =
-    let l = parted r s left x is_x in
-    let m = parted r s right y is_y in
-    by_parts l.0 l.1 m.0 m.1 l.2 m.2
-  where
-    by_parts : (a b c d : ℤ) → IsParted r s left x a b → IsParted r s right y c d
-        → is_atom_true (difference left right low high) r s ≡ true
-    by_parts a b c d l m =
-        let whole_l = l.whole in
-        let whole_m = m.whole in
-        let of_r = value_of-both (columns_of R false left) (columns_of R true right) r a (neg_ℤ c)
-        _ l.r_plain m.r_turned refl in
-        let of_s = value_of-both (columns_of S true left) (columns_of S false right) s (neg_ℤ b)
-        d _ l.s_turned m.s_plain refl in
-        between_is low high _ _ (a +ℤ neg_ℤ c) (neg_ℤ b +ℤ d) of_r of_s
-        ∙ bounds ((a +ℤ neg_ℤ c) -ℤ (neg_ℤ b +ℤ d)) (omega (arith, ints, whole_l, whole_m))
+module _ (r s : List Cell) (left right : List SignedTerm) where
+  -- where two sums have numbers, the atom of their difference is true if what the columns come to is in its bounds
+  pub difference_true : (low high : Option ℤ) (x y : ℤ) → sum_of r s left ≡ Some x → sum_of r s right ≡ Some y
+      → ((gap : ℤ) → x -ℤ y ≡ gap +ℤ (constant_of left -ℤ constant_of right)
+      → (is_from low gap && is_up_to high gap) ≡ true)
+      → is_atom_true (difference left right low high) r s ≡ true
+  difference_true low high x y is_x is_y bounds =
+      let l = parted r s left x is_x in
+      let m = parted r s right y is_y in
+      by_parts l.0 l.1 m.0 m.1 l.2 m.2
+    where
+      by_parts : (a b c d : ℤ) → IsParted r s left x a b → IsParted r s right y c d
+          → is_atom_true (difference left right low high) r s ≡ true
+      by_parts a b c d l m =
+          let whole_l = l.whole in
+          let whole_m = m.whole in
+          let of_r = value_of-both (columns_of R false left) (columns_of R true right) r a (neg_ℤ c)
+          _ l.r_plain m.r_turned refl in
+          let of_s = value_of-both (columns_of S true left) (columns_of S false right) s (neg_ℤ b)
+          d _ l.s_turned m.s_plain refl in
+          between_is low high _ _ (a +ℤ neg_ℤ c) (neg_ℤ b +ℤ d) of_r of_s
+          ∙ bounds ((a +ℤ neg_ℤ c) -ℤ (neg_ℤ b +ℤ d)) (omega (arith, ints, whole_l, whole_m))

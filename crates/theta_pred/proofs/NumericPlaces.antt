@@ -66,24 +66,25 @@ mutual
       All-append (Under width_r width_s side) (sum_places side f) _ (sum_places-within width_r width_s side f h.0)
       (all_sum_places-within width_r width_s side fs h.1)
 
--- the places of a side in a sound predicate's sums, sorted and each kept once, are the side's numeric columns
-pub AreNumeric-sorted : (width_r width_s : ℕ) (side : Side) (f : Formula) (added sorted kept : List ℕ)
-    → IsSound width_r width_s f → added ≡ sum_places side f → IsPermutation added sorted → IsSorted nat_cmp sorted
-    → IsFiltered (DiffersFromLast eqb) [] sorted kept → AreNumeric f side (of_side width_r width_s side) kept
-AreNumeric-sorted width_r width_s side f added sorted kept sound is permuted in_order filtered =
-    let kept_is = dedup_is eqb sorted kept filtered in
-    let from : (place : ℕ) → Contains kept place → Contains (sum_places side f) place = λ place h.
-    subst (λ places. Contains places place) is
-    (Contains-permutation sorted added place (IsPermutation-sym added sorted permuted)
-    (Contains-from_dedup eqb sorted place (subst (λ places. Contains places place) kept_is h))) in
-    let into : (place : ℕ) → Contains (sum_places side f) place → Contains kept place = λ place h.
-    subst (λ places. Contains places place) (sym kept_is)
-    (Contains-dedup_nat sorted place
-    (Contains-permutation added sorted place permuted (subst (λ places. Contains places place) (sym is) h))) in
-    record {
-      rising = rw kept_is (IsStrictlyIncreasing-dedup sorted in_order);
-      standing = λ place. (from place, into place);
-      within = λ k d below. All-contains (Under width_r width_s side) (sum_places side f) _
-          (sum_places-within width_r width_s side f sound)
-          (from _ (Contains-get_or kept k d below));
-    }
+module _ (width_r width_s : ℕ) (side : Side) (f : Formula) where
+  -- the places of a side in a sound predicate's sums, sorted and each kept once, are the side's numeric columns
+  pub AreNumeric-sorted : (added sorted kept : List ℕ)
+      → IsSound width_r width_s f → added ≡ sum_places side f → IsPermutation added sorted → IsSorted nat_cmp sorted
+      → IsFiltered (DiffersFromLast eqb) [] sorted kept → AreNumeric f side (of_side width_r width_s side) kept
+  AreNumeric-sorted added sorted kept sound is permuted in_order filtered =
+      let kept_is = dedup_is eqb sorted kept filtered in
+      let from : (place : ℕ) → Contains kept place → Contains (sum_places side f) place = λ place h.
+      subst (λ places. Contains places place) is
+      (Contains-permutation sorted added place (IsPermutation-sym added sorted permuted)
+      (Contains-from_dedup eqb sorted place (subst (λ places. Contains places place) kept_is h))) in
+      let into : (place : ℕ) → Contains (sum_places side f) place → Contains kept place = λ place h.
+      subst (λ places. Contains places place) (sym kept_is)
+      (Contains-dedup_nat sorted place
+      (Contains-permutation added sorted place permuted (subst (λ places. Contains places place) (sym is) h))) in
+      record {
+        rising = rw kept_is (IsStrictlyIncreasing-dedup sorted in_order);
+        standing = λ place. (from place, into place);
+        within = λ k d below. All-contains (Under width_r width_s side) (sum_places side f) _
+            (sum_places-within width_r width_s side f sound)
+            (from _ (Contains-get_or kept k d below));
+      }

@@ -128,18 +128,19 @@ one_gap a b (Some x) (Some y) one two = enclosed a (x -ℤ y) one ∙ sym (enclo
 equal_compare : (x y : ℤ) → x ≡ y → is_eq (int_cmp x y) ≡ true
 equal_compare x y is = ap is_eq (sym (int_cmp_is x y Equal is))
 
-equal_sums : (r s : List Cell) (left right : List SignedTerm) (o p : Option ℤ) → o ≡ sum_of r s left
-    → p ≡ sum_of r s right
-    → is_some o ≡ true → is_some p ≡ true → agrees r s (of_sums left right) ≡ true → compares Eq o p ≡ true
-equal_sums r s left right None p is_o is_p one two agree = absurd (false≢true one)
-equal_sums r s left right (Some x) None is_o is_p one two agree = absurd (false≢true two)
-equal_sums r s left right (Some x) (Some y) is_o is_p one two agree =
-    let c = constant_of left -ℤ constant_of right in
-    let g = (x -ℤ y) -ℤ c in
-    let apart = difference_true r s left right (Some g) (Some g) x y (sym is_o) (sym is_p)
-    (λ gap is. both _ _ (at_most g gap (omega (arith, ints))) (at_most gap g (omega (arith, ints)))) in
-    let same = one_gap g (neg_ℤ c) _ _ apart agree in
-    equal_compare x y (omega (arith, ints, same))
+module _ (r s : List Cell) (left right : List SignedTerm) where
+  equal_sums : (o p : Option ℤ) → o ≡ sum_of r s left
+      → p ≡ sum_of r s right
+      → is_some o ≡ true → is_some p ≡ true → agrees r s (of_sums left right) ≡ true → compares Eq o p ≡ true
+  equal_sums None p is_o is_p one two agree = absurd (false≢true one)
+  equal_sums (Some x) None is_o is_p one two agree = absurd (false≢true two)
+  equal_sums (Some x) (Some y) is_o is_p one two agree =
+      let c = constant_of left -ℤ constant_of right in
+      let g = (x -ℤ y) -ℤ c in
+      let apart = difference_true r s left right (Some g) (Some g) x y (sym is_o) (sym is_p)
+      (λ gap is. both _ _ (at_most g gap (omega (arith, ints))) (at_most gap g (omega (arith, ints)))) in
+      let same = one_gap g (neg_ℤ c) _ _ apart agree in
+      equal_compare x y (omega (arith, ints, same))
 
 sums_equal : (r s : List Cell) (left right : List SignedTerm) → agrees r s (of_sums left right) ≡ true
     → compares Eq (sum_of r s left) (sum_of r s right) ≡ true

@@ -359,40 +359,40 @@ syntax_fault L end tokens place e =
     go front s ran [] h = stuck_end L (words front) s ran h.1
     go front s ran (p ∷ ps) h = stuck_at L (words front) s p.token ran h
 
--- for the three limits at once: where one is what is wrong, the token at the place passes it, and wouldn't a wider one
-pub passes : (L : Limits) (b c : Bool) (g : Token → ℕ) (end : ℕ) (tokens : List Placed) (place : ℕ) (k : Kind)
-    (IsOf : Token → Type 0)
-    → ((t : Token) → L.greatest ≤ g t) → (k ≡ syntax → ⊥)
-    → verdict L end (start L) tokens ≡ wrong k place
-    → ((t : Token) → Blames t (Err k) → IsOf t)
-    → ((t : Token) (r : Step) → Lifts b c (g t) t (Err k) r → IsOk r)
-    → (t : Token) × Passes L (Wide L b c (g t)) tokens place IsOf
-passes L b c g end tokens place k IsOf le other e kind lifting = let st = stops L end tokens (start L) k place e in
-    go st st.rest refl
-  where
-    go : (st : Stops L end (start L) tokens k place) (rest : List Placed) → st.rest ≡ rest → (t : Token)
-        × Passes L (Wide L b c (g t)) tokens place IsOf
-    go st [] same = absurd (other (subst (λ x. Halts L st.s k x) same st.halted).0)
-    go st (p ∷ ps) same =
-        let t = p.token in
-        let h : step L st.s t ≡ Err k = subst (λ x. Halts L st.s k x) same st.halted in
-        let blame : Blames t (Err k) = subst (λ x. Blames t x) h (blames L st.s t) in
-        let lift : Lifts b c (g t) t (Err k) (step (Wide L b c (g t)) (ups b c st.s) t) =
-        subst (λ x. Lifts b c (g t) t x (step (Wide L b c (g t)) (ups b c st.s) t)) h
-        (lifts L b c (g t) (le t) st.s t) in (
-          t,
-          record {
-            front = st.front;
-            next = p;
-            rest = ps;
-            whole = st.whole ∙ ap (λ x. st.front ++ x) same;
-            there = st.there ∙ ap (λ x. place_of end x) same;
-            kind = kind t blame;
-            open_before = goes_open L (words st.front) st.s st.ran;
-            not_open = not_open_at L (words st.front) st.s t k st.ran h;
-            open_wider = open_wide L b c (g t) (le t) (words st.front) st.s t st.ran (lifting t _ lift);
-          },
-        )
+module _ (L : Limits) (b c : Bool) (g : Token → ℕ) (end : ℕ) (tokens : List Placed) where
+  -- for the three limits at once: where one is what is wrong, the token at the place passes it, and wouldn't a wider
+  -- one
+  pub passes : (place : ℕ) (k : Kind) (IsOf : Token → Type 0) → ((t : Token) → L.greatest ≤ g t) → (k ≡ syntax → ⊥)
+      → verdict L end (start L) tokens ≡ wrong k place
+      → ((t : Token) → Blames t (Err k) → IsOf t)
+      → ((t : Token) (r : Step) → Lifts b c (g t) t (Err k) r → IsOk r)
+      → (t : Token) × Passes L (Wide L b c (g t)) tokens place IsOf
+  passes place k IsOf le other e kind lifting = let st = stops L end tokens (start L) k place e in
+      go st st.rest refl
+    where
+      go : (st : Stops L end (start L) tokens k place) (rest : List Placed) → st.rest ≡ rest → (t : Token)
+          × Passes L (Wide L b c (g t)) tokens place IsOf
+      go st [] same = absurd (other (subst (λ x. Halts L st.s k x) same st.halted).0)
+      go st (p ∷ ps) same =
+          let t = p.token in
+          let h : step L st.s t ≡ Err k = subst (λ x. Halts L st.s k x) same st.halted in
+          let blame : Blames t (Err k) = subst (λ x. Blames t x) h (blames L st.s t) in
+          let lift : Lifts b c (g t) t (Err k) (step (Wide L b c (g t)) (ups b c st.s) t) =
+          subst (λ x. Lifts b c (g t) t x (step (Wide L b c (g t)) (ups b c st.s) t)) h
+          (lifts L b c (g t) (le t) st.s t) in (
+            t,
+            record {
+              front = st.front;
+              next = p;
+              rest = ps;
+              whole = st.whole ∙ ap (λ x. st.front ++ x) same;
+              there = st.there ∙ ap (λ x. place_of end x) same;
+              kind = kind t blame;
+              open_before = goes_open L (words st.front) st.s st.ran;
+              not_open = not_open_at L (words st.front) st.s t k st.ran h;
+              open_wider = open_wide L b c (g t) (le t) (words st.front) st.s t st.ran (lifting t _ lift);
+            },
+          )
 
 -- where a unit is too deep by the verdict, the token at the place nests deeper than the limit
 pub deep_fault : (L : Limits) (end : ℕ) (tokens : List Placed) (place : ℕ)

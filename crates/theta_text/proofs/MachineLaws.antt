@@ -368,23 +368,24 @@ pull_below L d [] t ts mid b e r = let clash : t ∷ ts ≡ [] = e ∙ r in let 
 pull_below L d (close ∷ s) t ts mid b e (mid', e', r) = pull_at L (tail d ∷ close ∷ s) t Close ts mid' (e ∙ e') r
 pull_below L d (_ ∷ s) t ts mid b e r = absurd b
 
-pull_tail : (L : Limits) (d : ℕ) (s : List Symbol) (t : Token) (ts mid : List Token) → BelowTail s
-    → (us cs : List Tree) (m : List Token) → Further IsAnd (Unit' L d) (t ∷ ts) us m
-    → Further IsOr (Conj (Unit' L d)) m cs mid → GivesAll L s mid
-    → Pulls L (step L (tail d ∷ s) t) ts
-pull_tail L d s t ts mid b (u ∷ us) cs m (sep, from, to, (w, es), e, item, fu) fo r =
-    pull_at L (tail d ∷ s) t (Word And w) ts from (e ∙ ap (λ x. x ∷ from) es) (
-      to,
-      (u, item),
-      (mid, (us, cs, m, fu, fo), r),
-    )
-pull_tail L d s t ts mid b [] (c ∷ cs) m fu (sep, from, to, (w, es), e, (first, us, to', e', u, fu'), fo) r =
-    pull_at L (tail d ∷ s) t (Word Or w) ts from (fu ∙ e ∙ ap (λ x. x ∷ from) es) (
-      to',
-      (first, u),
-      (mid, (us, cs, to, fu', fo), r),
-    )
-pull_tail L d s t ts mid b [] [] m fu fo r = pull_below L d s t ts mid b (fu ∙ fo) r
+module _ (L : Limits) (d : ℕ) (s : List Symbol) (t : Token) (ts mid : List Token) where
+  pull_tail : BelowTail s
+      → (us cs : List Tree) (m : List Token) → Further IsAnd (Unit' L d) (t ∷ ts) us m
+      → Further IsOr (Conj (Unit' L d)) m cs mid → GivesAll L s mid
+      → Pulls L (step L (tail d ∷ s) t) ts
+  pull_tail b (u ∷ us) cs m (sep, from, to, (w, es), e, item, fu) fo r =
+      pull_at L (tail d ∷ s) t (Word And w) ts from (e ∙ ap (λ x. x ∷ from) es) (
+        to,
+        (u, item),
+        (mid, (us, cs, m, fu, fo), r),
+      )
+  pull_tail b [] (c ∷ cs) m fu (sep, from, to, (w, es), e, (first, us, to', e', u, fu'), fo) r =
+      pull_at L (tail d ∷ s) t (Word Or w) ts from (fu ∙ e ∙ ap (λ x. x ∷ from) es) (
+        to',
+        (first, u),
+        (mid, (us, cs, to, fu', fo), r),
+      )
+  pull_tail b [] [] m fu fo r = pull_below L d s t ts mid b (fu ∙ fo) r
 
 no_sign : (L : Limits) (s : List Symbol) (m : Bool) (ts : List Token) → BelowMore s → Fits s
     → Pulls L (step L s (Sign m)) ts → ⊥

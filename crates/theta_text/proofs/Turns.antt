@@ -34,30 +34,30 @@ pub nesting_is : limits.nesting ≡ 32
 unfolding limits
 nesting_is = refl
 
--- where the first token has a step, the verdict is that on the others, against what is then to come
-pub turn_ok : (L : Limits) (end : ℕ) (s s' : List Symbol) (t : Token) (tokens : List Placed) (p : Placed)
-    (ps : List Placed)
-    → tokens ≡ p ∷ ps → p.token ≡ t → step L s t ≡ Ok s' → verdict L end s tokens ≡ verdict L end s' ps
-turn_ok L end s s' t tokens p ps e et h =
-    ap (verdict L end s) e ∙ ap (λ x. go_on p.place (λ s. verdict L end s ps) (step L s x)) et
-    ∙ ap (go_on p.place (λ s. verdict L end s ps)) h
+module _ (L : Limits) (end : ℕ) (s s' : List Symbol) where
+  -- where the first token has a step, the verdict is that on the others, against what is then to come
+  pub turn_ok : (t : Token) (tokens : List Placed) (p : Placed) (ps : List Placed)
+      → tokens ≡ p ∷ ps → p.token ≡ t → step L s t ≡ Ok s' → verdict L end s tokens ≡ verdict L end s' ps
+  turn_ok t tokens p ps e et h =
+      ap (verdict L end s) e ∙ ap (λ x. go_on p.place (λ s. verdict L end s ps) (step L s x)) et
+      ∙ ap (go_on p.place (λ s. verdict L end s ps)) h
 
--- and where it has none, what stopped it is wrong, at its place
-pub turn_err : (L : Limits) (end : ℕ) (s : List Symbol) (k : Kind) (t : Token) (tokens : List Placed) (p : Placed)
-    (ps : List Placed)
-    → tokens ≡ p ∷ ps → p.token ≡ t → step L s t ≡ Err k → verdict L end s tokens ≡ wrong k p.place
-turn_err L end s k t tokens p ps e et h =
-    ap (verdict L end s) e ∙ ap (λ x. go_on p.place (λ s. verdict L end s ps) (step L s x)) et
-    ∙ ap (go_on p.place (λ s. verdict L end s ps)) h
+module _ (L : Limits) (end : ℕ) (s : List Symbol) (k : Kind) where
+  -- and where it has none, what stopped it is wrong, at its place
+  pub turn_err : (t : Token) (tokens : List Placed) (p : Placed) (ps : List Placed)
+      → tokens ≡ p ∷ ps → p.token ≡ t → step L s t ≡ Err k → verdict L end s tokens ≡ wrong k p.place
+  turn_err t tokens p ps e et h =
+      ap (verdict L end s) e ∙ ap (λ x. go_on p.place (λ s. verdict L end s ps) (step L s x)) et
+      ∙ ap (go_on p.place (λ s. verdict L end s ps)) h
 
--- where it has the same step against either of two stacks, the verdict is the same against both
-pub turn_same : (L : Limits) (end : ℕ) (s s' : List Symbol) (t : Token) (tokens : List Placed) (p : Placed)
-    (ps : List Placed)
-    → tokens ≡ p ∷ ps → p.token ≡ t → step L s t ≡ step L s' t → verdict L end s tokens ≡ verdict L end s' tokens
-turn_same L end s s' t tokens p ps e et h =
-    ap (verdict L end s) e ∙ ap (λ x. go_on p.place (λ s. verdict L end s ps) (step L s x)) et
-    ∙ ap (go_on p.place (λ s. verdict L end s ps)) h
-    ∙ sym (ap (λ x. go_on p.place (λ s. verdict L end s ps) (step L s' x)) et) ∙ sym (ap (verdict L end s') e)
+module _ (L : Limits) (end : ℕ) (s s' : List Symbol) where
+  -- where it has the same step against either of two stacks, the verdict is the same against both
+  pub turn_same : (t : Token) (tokens : List Placed) (p : Placed) (ps : List Placed)
+      → tokens ≡ p ∷ ps → p.token ≡ t → step L s t ≡ step L s' t → verdict L end s tokens ≡ verdict L end s' tokens
+  turn_same t tokens p ps e et h =
+      ap (verdict L end s) e ∙ ap (λ x. go_on p.place (λ s. verdict L end s ps) (step L s x)) et
+      ∙ ap (go_on p.place (λ s. verdict L end s ps)) h
+      ∙ sym (ap (λ x. go_on p.place (λ s. verdict L end s ps) (step L s' x)) et) ∙ sym (ap (verdict L end s') e)
 
 -- tokens without their places are the first one and then the others without theirs
 pub words_at : (t : Token) (tokens : List Placed) (p : Placed) (ps : List Placed) → tokens ≡ p ∷ ps → p.token ≡ t
@@ -122,29 +122,29 @@ past_tail L end d s (p ∷ ps) off off' = ap (go_on p.place (λ s. verdict L end
 pub read_open : (L : Limits) (d : ℕ) (before ts mid after : List Token) (t : Tree) → 0 < d → before ≡ Open ∷ ts
     → Predicate (Unit' L (d - 1)) ts t mid → mid ≡ Close ∷ after
     → Unit' L d before t after
-read_open L zero before ts mid after t h e u em = absurd (omega arith)
-read_open L (suc d) before ts mid after t h e u em =
+read_open L zero before ts mid after t = λ h e u em. absurd (omega arith)
+read_open L (suc d) before ts mid after t = λ h e u em.
     let same : suc d - 1 ≡ d = omega arith in
     let u' : Predicate (Unit' L d) ts t mid = subst (λ x. Predicate (Unit' L x) ts t mid) same u in
     subst (λ x. Unit' L (suc d) x t after) (sym e) (subst (λ x. Predicate (Unit' L d) ts t x) em u')
 
--- further items and one more behind them, with its separator, are further items
-pub further_push : {A : Type 0} (IsSep : Token → Type 0) (Item : Part A) (before mid from to : List Token) (xs : List A)
-    (x : A) (sep : Token)
-    → Further IsSep Item before xs mid → IsSep sep → mid ≡ sep ∷ from → Item from x to
-    → Further IsSep Item before (xs ++ x ∷ []) to
-further_push IsSep Item before mid from to [] x sep f is e item = (sep, from, to, is, f ∙ e, item, refl)
-further_push IsSep Item before mid from to (y ∷ ys) x sep (sep', from', to', is', e', item', f) is e item =
-    (sep', from', to', is', e', item', further_push IsSep Item to' mid from to ys x sep f is e item)
+module _ {A : Type 0} (IsSep : Token → Type 0) (Item : Part A) where
+  -- further items and one more behind them, with its separator, are further items
+  pub further_push : (before mid from to : List Token) (xs : List A) (x : A) (sep : Token)
+      → Further IsSep Item before xs mid → IsSep sep → mid ≡ sep ∷ from → Item from x to
+      → Further IsSep Item before (xs ++ x ∷ []) to
+  further_push before mid from to [] x sep f is = λ e item. (sep, from, to, is, f ∙ e, item, refl)
+  further_push before mid from to (y ∷ ys) x sep (sep', from', to', is', e', item', f) is = λ e item.
+      (sep', from', to', is', e', item', further_push to' mid from to ys x sep f is e item)
 
 -- and so are further terms and one more, with its sign, if there is room for it
 pub terms_push : (g n : ℕ) (before mid from to : List Token) (xs : List Signed) (x : Signed)
     → FurtherTerms g n before xs mid → mid ≡ Sign x.minus ∷ from → TermText g from x.term to → length xs < n
     → FurtherTerms g n before (xs ++ x ∷ []) to
-terms_push g zero before mid from to [] x f e h lt = absurd (omega arith)
-terms_push g (suc n) before mid from to [] x f e h lt = (from, to, f ∙ e, h, refl)
-terms_push g zero before mid from to (y ∷ ys) x f e h lt = absurd f
-terms_push g (suc n) before mid from to (y ∷ ys) x (from', to', e', h', f) e h lt =
+terms_push g zero before mid from to [] x f = λ e h lt. absurd (omega arith)
+terms_push g (suc n) before mid from to [] x f = λ e h lt. (from, to, f ∙ e, h, refl)
+terms_push g zero before mid from to (y ∷ ys) x f = λ e h lt. absurd f
+terms_push g (suc n) before mid from to (y ∷ ys) x (from', to', e', h', f) = λ e h lt.
     (from', to', e', h', terms_push g n to' mid from to ys x f e h (omega arith))
 
 -- a fault that a part met is the fault of the whole

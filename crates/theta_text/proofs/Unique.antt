@@ -41,28 +41,28 @@ further_stop IsSep Stop Item at_sep before [] a f s = subst Stop (sym f) s
 further_stop IsSep Stop Item at_sep before (x ∷ xs) a (sep, from, to, is, e, item, f) s =
     subst Stop (sym e) (at_sep sep from is)
 
--- further items from one place have one value and one end, if each item has where a separator or what stands behind the
--- last follows it, and that is no separator
-pub further_sharp : {A : Type 0} (IsSep : Token → Type 0) (Stop : List Token → Type 0) (Item : Part A)
-    → ((t : Token) (rest : List Token) → IsSep t → Stop (t ∷ rest)) → IsSharp Stop Item
-    → (before : List Token) (xs ys : List A) (a b : List Token) → Further IsSep Item before xs a
-    → Further IsSep Item before ys b
-    → Stop a → Stop b → StartsOff IsSep a → StartsOff IsSep b → (xs ≡ ys) × (a ≡ b)
-further_sharp IsSep Stop Item at_sep sharp before [] [] a b f g s s' o o' = (refl, sym f ∙ g)
-further_sharp IsSep Stop Item at_sep sharp before [] (y ∷ ys) a b f (sep, from, to, is, e, item, g) s s' o o' =
-    absurd (o sep from is (sym f ∙ e))
-further_sharp IsSep Stop Item at_sep sharp before (x ∷ xs) [] a b (sep, from, to, is, e, item, f) g s s' o o' =
-    absurd (o' sep from is (sym g ∙ e))
-further_sharp IsSep Stop Item at_sep sharp before (x ∷ xs) (y ∷ ys) a b (sep, from, to, is, e, item, f)
-    (sep', from', to', is', e', item', g) s s' o o' =
-    let both : sep' ∷ from' ≡ sep ∷ from = sym e' ∙ e in
-    let ef : from' ≡ from = cc in
-    let at_from : Item from y to' = subst (λ z. Item z y to') ef item' in
-    let one = sharp from x y to to' item at_from (further_stop IsSep Stop Item at_sep to xs a f s)
-    (further_stop IsSep Stop Item at_sep to' ys b g s') in
-    let g' : Further IsSep Item to ys b = subst (λ z. Further IsSep Item z ys b) (sym one.1) g in
-    let others = further_sharp IsSep Stop Item at_sep sharp to xs ys a b f g' s s' o o' in
-    (ap₂ (λ z zs. z ∷ zs) one.0 others.0, others.1)
+module _ {A : Type 0} (IsSep : Token → Type 0) (Stop : List Token → Type 0) (Item : Part A) where
+  -- further items from one place have one value and one end, if each item has where a separator or what stands behind
+  -- the last follows it, and that is no separator
+  pub further_sharp : ((t : Token) (rest : List Token) → IsSep t → Stop (t ∷ rest)) → IsSharp Stop Item
+      → (before : List Token) (xs ys : List A) (a b : List Token) → Further IsSep Item before xs a
+      → Further IsSep Item before ys b
+      → Stop a → Stop b → StartsOff IsSep a → StartsOff IsSep b → (xs ≡ ys) × (a ≡ b)
+  further_sharp at_sep sharp before [] [] a b f g = λ s s' o o'. (refl, sym f ∙ g)
+  further_sharp at_sep sharp before [] (y ∷ ys) a b f (sep, from, to, is, e, item, g) = λ s s' o o'.
+      absurd (o sep from is (sym f ∙ e))
+  further_sharp at_sep sharp before (x ∷ xs) [] a b (sep, from, to, is, e, item, f) g = λ s s' o o'.
+      absurd (o' sep from is (sym g ∙ e))
+  further_sharp at_sep sharp before (x ∷ xs) (y ∷ ys) a b (sep, from, to, is, e, item, f)
+      (sep', from', to', is', e', item', g) = λ s s' o o'.
+      let both : sep' ∷ from' ≡ sep ∷ from = sym e' ∙ e in
+      let ef : from' ≡ from = cc in
+      let at_from : Item from y to' = subst (λ z. Item z y to') ef item' in
+      let one = sharp from x y to to' item at_from (further_stop IsSep Stop Item at_sep to xs a f s)
+      (further_stop IsSep Stop Item at_sep to' ys b g s') in
+      let g' : Further IsSep Item to ys b = subst (λ z. Further IsSep Item z ys b) (sym one.1) g in
+      let others = further_sharp at_sep sharp to xs ys a b f g' s s' o o' in
+      (ap₂ (λ z zs. z ∷ zs) one.0 others.0, others.1)
 
 -- and so has a chain of such items, as one tree, if no separator follows it
 pub chain_sharp : (IsSep : Token → Type 0) (make : Trees → Tree) (Stop : List Token → Type 0) (Item : Part Tree)
@@ -129,13 +129,14 @@ AfterSum = StartsOff IsSignToken
 pub terms_sharp : (g n : ℕ) (before : List Token) (vs ws : List Signed) (a b : List Token)
     → FurtherTerms g n before vs a → FurtherTerms g n before ws b
     → AfterSum a → AfterSum b → (vs ≡ ws) × (a ≡ b)
-terms_sharp g n before [] [] a b f f' o o' = (refl, sym f ∙ f')
-terms_sharp g zero before [] (w ∷ ws) a b f f' o o' = absurd f'
-terms_sharp g (suc n) before [] (w ∷ ws) a b f (from, to, e, h, f') o o' = absurd (o _ from (w.minus, refl) (sym f ∙ e))
-terms_sharp g zero before (v ∷ vs) ws a b f f' o o' = absurd f
-terms_sharp g (suc n) before (v ∷ vs) [] a b (from, to, e, h, f) f' o o' =
+terms_sharp g n before [] [] a b f f' = λ o o'. (refl, sym f ∙ f')
+terms_sharp g zero before [] (w ∷ ws) a b f f' = λ o o'. absurd f'
+terms_sharp g (suc n) before [] (w ∷ ws) a b f (from, to, e, h, f') = λ o o'.
+    absurd (o _ from (w.minus, refl) (sym f ∙ e))
+terms_sharp g zero before (v ∷ vs) ws a b f f' = λ o o'. absurd f
+terms_sharp g (suc n) before (v ∷ vs) [] a b (from, to, e, h, f) f' = λ o o'.
     absurd (o' _ from (v.minus, refl) (sym f' ∙ e))
-terms_sharp g (suc n) before (v ∷ vs) (w ∷ ws) a b (from, to, e, h, f) (from', to', e', h', f') o o' =
+terms_sharp g (suc n) before (v ∷ vs) (w ∷ ws) a b (from, to, e, h, f) (from', to', e', h', f') = λ o o'.
     let both : Sign w.minus ∷ from' ≡ Sign v.minus ∷ from = sym e' ∙ e in
     let ef : from' ≡ from = cc in
     let em : w.minus ≡ v.minus = cc in
@@ -256,18 +257,18 @@ predicate_sharp Unit sharp =
     chain_sharp IsOr any AfterConj (Conj Unit) or_stop (chain_sharp IsAnd every AfterSum Unit and_stop sharp)
 
 over_sharp : (L : Limits) (Inner : Part Tree) → IsSharp AfterSum Inner → IsSharp AfterSum (UnitOver L Inner)
-over_sharp L Inner sharp [] x y a b p q s s' = num_sharp L [] x y a b p q s s'
-over_sharp L Inner sharp (Word Not w ∷ ts) x y a b (t, e, i) (t', e', i') s s' =
+over_sharp L Inner sharp [] x y a b p q = λ s s'. num_sharp L [] x y a b p q s s'
+over_sharp L Inner sharp (Word Not w ∷ ts) x y a b (t, e, i) (t', e', i') = λ s s'.
     let r = sharp ts t t' a b i i' s s' in
     (e ∙ ap negation r.0 ∙ sym e', r.1)
-over_sharp L Inner sharp (Open ∷ ts) x y a b p q s s' =
+over_sharp L Inner sharp (Open ∷ ts) x y a b p q = λ s s'.
     let r = predicate_sharp Inner sharp ts x y (Close ∷ a) (Close ∷ b) p q (close_end a) (close_end b) in
     let e = r.1 in
     (r.0, cc)
-over_sharp L Inner sharp (Word Abs w ∷ ts) x y a b p q s s' = band_sharp L ts x y a b p q s s'
-over_sharp L Inner sharp (Word Text w ∷ ts) x y a b p q s s' = txt_sharp (Word Text w ∷ ts) x y a b p q tt tt
-over_sharp L Inner sharp (Literal w ∷ ts) x y a b p q s s' = txt_sharp (Literal w ∷ ts) x y a b p q tt tt
-over_sharp L Inner sharp (t ∷ ts) x y a b p q s s' = num_sharp L (t ∷ ts) x y a b p q s s'
+over_sharp L Inner sharp (Word Abs w ∷ ts) x y a b p q = λ s s'. band_sharp L ts x y a b p q s s'
+over_sharp L Inner sharp (Word Text w ∷ ts) x y a b p q = λ s s'. txt_sharp (Word Text w ∷ ts) x y a b p q tt tt
+over_sharp L Inner sharp (Literal w ∷ ts) x y a b p q = λ s s'. txt_sharp (Literal w ∷ ts) x y a b p q tt tt
+over_sharp L Inner sharp (t ∷ ts) x y a b p q = λ s s'. num_sharp L (t ∷ ts) x y a b p q s s'
 
 -- a unit of any depth has one tree and one end, if no sign follows it
 pub unit_sharp : (L : Limits) (d : ℕ) → IsSharp AfterSum (Unit' L d)

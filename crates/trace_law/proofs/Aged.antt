@@ -123,33 +123,35 @@ new_part k b e j new stamps f =
     at_least : (stamp : ℕ) → e ≤ stamp → (stamp == e) ≡ nat_le stamp e
     at_least stamp low = grind (arith, nat_tests)
 
--- base and arrivals are together what is held of the older and the granted rows of the first epoch
-pub first_same : (k b e j : ℕ) (base arrived old new : List Tuple) → AllByRecursion (λ t. t.stamp ≡ e) old
-    → AllByRecursion (λ t. e ≤ t.stamp) new
-    → SameBag base (filter (holds k b j) old) → SameBag arrived (filter (λ t. (t.stamp == e) && holds k b j t) new)
-    → SameBag (base ++ arrived) (filter (is_stored k b e j) (old ++ new))
-first_same k b e j base arrived old new stamps since mine came = record {
-  sums = λ f.
-      let w : Tuple → ℕ = λ t. only_if (is_stored k b e j t) (f t) in
-      let a = mine.sums f ∙ sum-filter f (holds k b j) old ∙ old_part k b e j old stamps f in
-      let c = came.sums f ∙ sum-filter f (λ t. (t.stamp == e) && holds k b j t) new ∙ new_part k b e j new since f in
-      let left = sum_by-append f base arrived in
-      let right = sum-filter f (is_stored k b e j) (old ++ new) ∙ sum_by-append w old new in
-      omega arith;
-}
+module _ (k b e j : ℕ) (base arrived old new : List Tuple) where
+  -- base and arrivals are together what is held of the older and the granted rows of the first epoch
+  pub first_same : AllByRecursion (λ t. t.stamp ≡ e) old
+      → AllByRecursion (λ t. e ≤ t.stamp) new
+      → SameBag base (filter (holds k b j) old) → SameBag arrived (filter (λ t. (t.stamp == e) && holds k b j t) new)
+      → SameBag (base ++ arrived) (filter (is_stored k b e j) (old ++ new))
+  first_same stamps since mine came = record {
+    sums = λ f.
+        let w : Tuple → ℕ = λ t. only_if (is_stored k b e j t) (f t) in
+        let a = mine.sums f ∙ sum-filter f (holds k b j) old ∙ old_part k b e j old stamps f in
+        let c = came.sums f ∙ sum-filter f (λ t. (t.stamp == e) && holds k b j t) new ∙ new_part k b e j new since f in
+        let left = sum_by-append f base arrived in
+        let right = sum-filter f (is_stored k b e j) (old ++ new) ∙ sum_by-append w old new in
+        omega arith;
+  }
 
--- the same where not all has arrived
-pub first_within : (k b e j : ℕ) (base arrived old new : List Tuple) → AllByRecursion (λ t. t.stamp ≡ e) old
-    → AllByRecursion (λ t. e ≤ t.stamp) new
-    → SameBag base (filter (holds k b j) old) → IsWithinBag arrived (filter (λ t. (t.stamp == e) && holds k b j t) new)
-    → IsWithinBag (base ++ arrived) (filter (is_stored k b e j) (old ++ new))
-first_within k b e j base arrived old new stamps since mine came = record {
-  sums = λ f.
-      let w : Tuple → ℕ = λ t. only_if (is_stored k b e j t) (f t) in
-      let a = mine.sums f ∙ sum-filter f (holds k b j) old ∙ old_part k b e j old stamps f in
-      let below = came.sums f in
-      let c = sum-filter f (λ t. (t.stamp == e) && holds k b j t) new ∙ new_part k b e j new since f in
-      let left = sum_by-append f base arrived in
-      let right = sum-filter f (is_stored k b e j) (old ++ new) ∙ sum_by-append w old new in
-      omega arith;
-}
+  -- the same where not all has arrived
+  pub first_within : AllByRecursion (λ t. t.stamp ≡ e) old
+      → AllByRecursion (λ t. e ≤ t.stamp) new
+      → SameBag base (filter (holds k b j) old)
+      → IsWithinBag arrived (filter (λ t. (t.stamp == e) && holds k b j t) new)
+      → IsWithinBag (base ++ arrived) (filter (is_stored k b e j) (old ++ new))
+  first_within stamps since mine came = record {
+    sums = λ f.
+        let w : Tuple → ℕ = λ t. only_if (is_stored k b e j t) (f t) in
+        let a = mine.sums f ∙ sum-filter f (holds k b j) old ∙ old_part k b e j old stamps f in
+        let below = came.sums f in
+        let c = sum-filter f (λ t. (t.stamp == e) && holds k b j t) new ∙ new_part k b e j new since f in
+        let left = sum_by-append f base arrived in
+        let right = sum-filter f (is_stored k b e j) (old ++ new) ∙ sum_by-append w old new in
+        omega arith;
+  }

@@ -44,34 +44,35 @@ at_either k b b' e j (inr down) low low' small t n =
     let least : min b b' ≡ b' = omega arith in
     rw (least, le-ltb b b' (omega arith), down) (at_falling k b' e j (omega arith) small t.side t.ticket t.stamp n)
 
-step_within : (all A M N : List Tuple) (k b b' e j : ℕ) → AreNeighbours b b' → b ≤ k → b' ≤ k → k ≤ 8
-    → IsWithinBag A (filter (is_stored k b e j) all)
-    → IsWithinBag M (filter (is_of (exchanged_side b b')) (filter (is_stored k b e (partner_in_step b b' j)) all))
-    → IsWithinBag N (filter (λ t. (t.stamp == e + 1) && holds k b' j t) all)
-    → IsWithinBag (filter (holds k b' j) A ++ M ++ N) (filter (is_stored k b' (e + 1) j) all)
-step_within all A M N k b b' e j near low low' small mine came new = record {
-  sums = λ f.
-      let q = partner_in_step b b' j in
-      let x = exchanged_side b b' in
-      let kept = sum-filter f (holds k b' j) A in
-      let kept' = mine.sums (λ t. only_if (holds k b' j t) (f t)) in
-      let kept'' = sum-filter (λ t. only_if (holds k b' j t) (f t)) (is_stored k b e j) all in
-      let came' = came.sums f in
-      let came'' =
-      sum-filter f (is_of x) (filter (is_stored k b e q) all)
-      ∙ sum-filter (λ t. only_if (is_of x t) (f t)) (is_stored k b e q) all in
-      let new' = new.sums f in
-      let new'' = sum-filter f (λ t. (t.stamp == e + 1) && holds k b' j t) all in
-      let three =
-      sum_three (λ t. only_if (is_stored k b e j t) (only_if (holds k b' j t) (f t)))
-      (λ t. only_if (is_stored k b e q t) (only_if (is_of x t) (f t)))
-      (λ t. only_if ((t.stamp == e + 1) && holds k b' j t) (f t)) (λ t. only_if (is_stored k b' (e + 1) j t) (f t))
-      (λ t. at_either k b b' e j near low low' small t (f t)) all in
-      let parts = sum_by-append f (filter (holds k b' j) A ++ M) N in
-      let parts' = sum_by-append f (filter (holds k b' j) A) M in
-      let whole = sum-filter f (is_stored k b' (e + 1) j) all in
-      omega arith;
-}
+module _ (all A M N : List Tuple) (k b b' e j : ℕ) where
+  step_within : AreNeighbours b b' → b ≤ k → b' ≤ k → k ≤ 8
+      → IsWithinBag A (filter (is_stored k b e j) all)
+      → IsWithinBag M (filter (is_of (exchanged_side b b')) (filter (is_stored k b e (partner_in_step b b' j)) all))
+      → IsWithinBag N (filter (λ t. (t.stamp == e + 1) && holds k b' j t) all)
+      → IsWithinBag (filter (holds k b' j) A ++ M ++ N) (filter (is_stored k b' (e + 1) j) all)
+  step_within near low low' small mine came new = record {
+    sums = λ f.
+        let q = partner_in_step b b' j in
+        let x = exchanged_side b b' in
+        let kept = sum-filter f (holds k b' j) A in
+        let kept' = mine.sums (λ t. only_if (holds k b' j t) (f t)) in
+        let kept'' = sum-filter (λ t. only_if (holds k b' j t) (f t)) (is_stored k b e j) all in
+        let came' = came.sums f in
+        let came'' =
+        sum-filter f (is_of x) (filter (is_stored k b e q) all)
+        ∙ sum-filter (λ t. only_if (is_of x t) (f t)) (is_stored k b e q) all in
+        let new' = new.sums f in
+        let new'' = sum-filter f (λ t. (t.stamp == e + 1) && holds k b' j t) all in
+        let three =
+        sum_three (λ t. only_if (is_stored k b e j t) (only_if (holds k b' j t) (f t)))
+        (λ t. only_if (is_stored k b e q t) (only_if (is_of x t) (f t)))
+        (λ t. only_if ((t.stamp == e + 1) && holds k b' j t) (f t)) (λ t. only_if (is_stored k b' (e + 1) j t) (f t))
+        (λ t. at_either k b b' e j near low low' small t (f t)) all in
+        let parts = sum_by-append f (filter (holds k b' j) A ++ M) N in
+        let parts' = sum_by-append f (filter (holds k b' j) A) M in
+        let whole = sum-filter f (is_stored k b' (e + 1) j) all in
+        omega arith;
+  }
 
 -- ---- what came
 

@@ -101,35 +101,38 @@ module _ (input : Input) (setting : Setting) (valid : IsValid input setting) (re
       decisions (rules_of setting) (begun rest.line) line past (fits_begun (rules_of setting) rest.line for.fits)
       follows a c (omega (arith, counted_r_within)) (omega (arith, counted_s_within))
 
-by_past : (input : Input) (setting : Setting) (rest : Rest) (journal backwards : List TurnLine)
-    → reverse journal ≡ backwards → IsValid input setting → IsLineFor input setting rest.line
-    → IsLawfulSoFar (rules_of setting) (begun rest.line) (λ p. map size_of (batches input setting rest.line p)) journal
-    → (a c : ℕ) → row_count input R < 2 ^ a → row_count input S < 2 ^ c
-    → (last_epoch journal - rest.line.epoch ≤ setting.k * (a + c)) × (due_lines (rules_of setting) backwards ≤ a + c)
-by_past input setting rest journal [] is valid for law a c small_r small_s =
-    absurd (subst (λ ls. Follows (rules_of setting) (begun rest.line) ls) is law.follows)
-by_past input setting rest journal (line ∷ past) is valid for law a c small_r small_s =
-    let follows : Follows (rules_of setting) (begun rest.line) (line ∷ past) =
-    subst (λ ls. Follows (rules_of setting) (begun rest.line) ls) is law.follows in
-    let journal_is : journal ≡ reverse (line ∷ past) = sym (reverse-reverse journal) ∙ ap reverse is in
-    let counts : (p : ℕ) → p < setting.feeders
-    → IsPrefix (causes_of p (reverse (line ∷ past)))
-    (all_causes p (map size_of (batches input setting rest.line p))) =
-    λ p low.
-    subst (λ ls. IsPrefix (causes_of p ls) (all_causes p (map size_of (batches input setting rest.line p))))
-    journal_is (law.counts p low) in
-    let turn : reverse (line ∷ past) ≡ reverse past ++ line ∷ [] = reverse-append (line ∷ []) past in
-    let last_is : last_epoch journal ≡ line.epoch = ap last_epoch (journal_is ∙ turn) ∙ last_is (reverse past) line in
-    let steps = few_steps input setting valid rest for line past follows counts a c small_r small_s in
-    (omega arith, few_decisions input setting valid rest for line past follows counts a c small_r small_s)
+module _ (input : Input) (setting : Setting) (rest : Rest) where
+  by_past : (journal backwards : List TurnLine)
+      → reverse journal ≡ backwards → IsValid input setting → IsLineFor input setting rest.line
+      → IsLawfulSoFar (rules_of setting) (begun rest.line) (λ p. map size_of (batches input setting rest.line p))
+      journal
+      → (a c : ℕ) → row_count input R < 2 ^ a → row_count input S < 2 ^ c
+      → (last_epoch journal - rest.line.epoch ≤ setting.k * (a + c)) × (due_lines (rules_of setting) backwards ≤ a + c)
+  by_past journal [] is valid for law a c small_r small_s =
+      absurd (subst (λ ls. Follows (rules_of setting) (begun rest.line) ls) is law.follows)
+  by_past journal (line ∷ past) is valid for law a c small_r small_s =
+      let follows : Follows (rules_of setting) (begun rest.line) (line ∷ past) =
+      subst (λ ls. Follows (rules_of setting) (begun rest.line) ls) is law.follows in
+      let journal_is : journal ≡ reverse (line ∷ past) = sym (reverse-reverse journal) ∙ ap reverse is in
+      let counts : (p : ℕ) → p < setting.feeders
+      → IsPrefix (causes_of p (reverse (line ∷ past)))
+      (all_causes p (map size_of (batches input setting rest.line p))) =
+      λ p low.
+      subst (λ ls. IsPrefix (causes_of p ls) (all_causes p (map size_of (batches input setting rest.line p))))
+      journal_is (law.counts p low) in
+      let turn : reverse (line ∷ past) ≡ reverse past ++ line ∷ [] = reverse-append (line ∷ []) past in
+      let last_is : last_epoch journal ≡ line.epoch = ap last_epoch (journal_is ∙ turn) ∙ last_is (reverse past) line in
+      let steps = few_steps input setting valid rest for line past follows counts a c small_r small_s in
+      (omega arith, few_decisions input setting valid rest for line past follows counts a c small_r small_s)
 
--- so a journal that is lawful so far has few migrations and few decisions
-pub bounded : (input : Input) (setting : Setting) (first : TurnLine) (journal : List TurnLine) → IsValid input setting
-    → IsLineFor input setting first
-    → IsLawfulSoFar (rules_of setting) (begun first) (λ p. map size_of (batches input setting first p)) journal
-    → (a c : ℕ) → row_count input R < 2 ^ a → row_count input S < 2 ^ c
-    → (last_epoch journal - first.epoch ≤ setting.k * (a + c))
-    × (due_lines (rules_of setting) (reverse journal) ≤ a + c)
-bounded input setting first journal valid for law a c small_r small_s =
-    let rest : Rest = record { line = first; stores = λ j. [] } in
-    by_past input setting rest journal (reverse journal) refl valid for law a c small_r small_s
+module _ (input : Input) (setting : Setting) where
+  -- so a journal that is lawful so far has few migrations and few decisions
+  pub bounded : (first : TurnLine) (journal : List TurnLine) → IsValid input setting
+      → IsLineFor input setting first
+      → IsLawfulSoFar (rules_of setting) (begun first) (λ p. map size_of (batches input setting first p)) journal
+      → (a c : ℕ) → row_count input R < 2 ^ a → row_count input S < 2 ^ c
+      → (last_epoch journal - first.epoch ≤ setting.k * (a + c))
+      × (due_lines (rules_of setting) (reverse journal) ≤ a + c)
+  bounded first journal valid for law a c small_r small_s =
+      let rest : Rest = record { line = first; stores = λ j. [] } in
+      by_past input setting rest journal (reverse journal) refl valid for law a c small_r small_s

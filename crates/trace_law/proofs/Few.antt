@@ -46,13 +46,14 @@ use Rattle.trace_law.proofs.Lawful.{lines_of}
 use Rattle.load_controller.proofs.Shifts.{last_is}
 use Rattle.reshuffler_core.proofs.Sizes.{asks_for_batches, answers_are_few}
 
--- the sum of all bounds, in numbers: n rows, p feeders, j joiners, l migrations
-sum_of_bounds : (n p j l feeders joiners ends nb received moved : ℕ) → 0 < j → nb ≤ n
-    → feeders ≤ 3 * nb + p * (l + 3) → received ≤ j * (p * (l + 1) + n) → moved ≤ j * (l * (n + 1))
-    → joiners ≤ received + moved → ends ≤ j * l + (received + moved) + j
-    → feeders + joiners + ends ≤ 8 * (n + p + 2) * j * (l + 2)
-sum_of_bounds n p zero l feeders joiners ends nb received moved some = λ a b c d e f. absurd (omega arith)
-sum_of_bounds n p (suc j) l feeders joiners ends nb received moved some = λ a b c d e f. omega arith
+module _ (n p : ℕ) where
+  -- the sum of all bounds, in numbers: n rows, p feeders, j joiners, l migrations
+  sum_of_bounds : (j l feeders joiners ends nb received moved : ℕ) → 0 < j → nb ≤ n
+      → feeders ≤ 3 * nb + p * (l + 3) → received ≤ j * (p * (l + 1) + n) → moved ≤ j * (l * (n + 1))
+      → joiners ≤ received + moved → ends ≤ j * l + (received + moved) + j
+      → feeders + joiners + ends ≤ 8 * (n + p + 2) * j * (l + 2)
+  sum_of_bounds zero l feeders joiners ends nb received moved some = λ a b c d e f. absurd (omega arith)
+  sum_of_bounds (suc j) l feeders joiners ends nb received moved some = λ a b c d e f. omega arith
 
 module _ (input : Input) (setting : Setting) (rest : Rest) (f : Family) (agrees : IsAgreeing input setting rest f)
     (valid : IsValid input setting) (stands : IsRestFor input setting rest) where

@@ -81,27 +81,29 @@ later_stamp line e late r q = at (is_before line r.side r.index) (is_before line
     at false true a b = grind (arith, nat_tests)
     at false false a b = refl
 
--- in the first epoch each pair has its stamp
-at_first : (e sr sq n : ℕ) (hr hs side_r side_q m : Bool) → e ≤ sr → e ≤ sq
-    → only_if (nat_le sr e && hr) (only_if side_r (only_if (nat_le sq e && hs) (only_if (side_q && m) n)))
-    ≡ only_if (nat_le sr e && hr)
-    (only_if side_r (only_if (nat_le sq e && hs) (only_if (side_q && (m && (max sr sq == e))) n)))
-at_first e sr sq n hr hs side_r side_q m low_r low_q = elim (cases_Bool (nat_le sr e)) [
-  | inl r ↦ elim (cases_Bool (nat_le sq e)) [
-    | inl q ↦
-        let high_r = leb-true sr e r in
-        let high_q = leb-true sq e q in
-        rw (eq-eqb (max sr sq) e (omega arith)) (both m)
-    | inr q ↦ rw q refl
+module _ (e sr sq n : ℕ) (hr hs side_r side_q m : Bool) where
+  -- in the first epoch each pair has its stamp
+  at_first : e ≤ sr → e ≤ sq
+      → only_if (nat_le sr e && hr) (only_if side_r (only_if (nat_le sq e && hs) (only_if (side_q && m) n)))
+      ≡ only_if (nat_le sr e && hr)
+      (only_if side_r (only_if (nat_le sq e && hs) (only_if (side_q && (m && (max sr sq == e))) n)))
+  at_first low_r low_q = elim (cases_Bool (nat_le sr e)) [
+    | inl r ↦ elim (cases_Bool (nat_le sq e)) [
+      | inl q ↦
+          let high_r = leb-true sr e r in
+          let high_q = leb-true sq e q in
+          rw (eq-eqb (max sr sq) e (omega arith)) (both m)
+      | inr q ↦ rw q refl
+    ]
+    | inr r ↦ rw r refl
   ]
-  | inr r ↦ rw r refl
-]
-  where
-    both : (t : Bool)
-        → only_if (nat_le sr e && hr) (only_if side_r (only_if (nat_le sq e && hs) (only_if (side_q && t) n)))
-        ≡ only_if (nat_le sr e && hr) (only_if side_r (only_if (nat_le sq e && hs) (only_if (side_q && (t && true)) n)))
-    both true = refl
-    both false = refl
+    where
+      both : (t : Bool)
+          → only_if (nat_le sr e && hr) (only_if side_r (only_if (nat_le sq e && hs) (only_if (side_q && t) n)))
+          ≡ only_if (nat_le sr e && hr)
+          (only_if side_r (only_if (nat_le sq e && hs) (only_if (side_q && (t && true)) n)))
+      both true = refl
+      both false = refl
 
 -- of stored rows of the first epoch or older each pair has that epoch as its greater stamp
 pub first_finds : (matches : Tuple → Tuple → Bool) (k j c e : ℕ) (ts : List Tuple)

@@ -84,21 +84,21 @@ all_sent P k j e b (batch ∷ batches) (Grant ∷ ms) each =
     (all_sent P k j e b batches ms (all-back P (map (stamped e) batch) (granted e batches ms) each)))
 all_sent P k j e b batches (Stop ∷ ms) each = all_sent P k j e b batches ms each
 
--- each tuple that came of a feeder bears its row's stamp
-pub received_stamps : (input : Input) (setting : Setting) (valid : IsValid input setting) (rest : Rest)
-    (stands : IsRestFor input setting rest) (f : Family) (agrees : IsAgreeing input setting rest f) (p j : ℕ)
-    → p < setting.feeders → j < 2 ^ setting.k
-    → AllByRecursion (HasItsStamp input setting rest f) (tups ((f.joiner j).from_feeder p))
-received_stamps input setting valid rest stands f agrees p j h h' =
-    let P = HasItsStamp input setting rest f in
-    let link = agrees.feeder_joiner p j h h' in
-    let is =
-    ap tups (sym ((agrees.feeders p h).answered j h') ∙ sym link.joins)
-    ∙ tups-append ((f.joiner j).from_feeder p) link.rest in
-    let its =
-    all_sent P setting.k j rest.line.epoch rest.line.shift (feeder_start input setting rest p).batches
-    (agrees.taken_by_feeder p) (granted_stamps input setting valid rest stands f agrees p h) in
-    all-front P (tups ((f.joiner j).from_feeder p)) (tups link.rest) (subst (AllByRecursion P) is its)
+module _ (input : Input) (setting : Setting) (valid : IsValid input setting) (rest : Rest)
+    (stands : IsRestFor input setting rest) (f : Family) (agrees : IsAgreeing input setting rest f) where
+  -- each tuple that came of a feeder bears its row's stamp
+  pub received_stamps : (p j : ℕ) → p < setting.feeders → j < 2 ^ setting.k
+      → AllByRecursion (HasItsStamp input setting rest f) (tups ((f.joiner j).from_feeder p))
+  received_stamps p j h h' =
+      let P = HasItsStamp input setting rest f in
+      let link = agrees.feeder_joiner p j h h' in
+      let is =
+      ap tups (sym ((agrees.feeders p h).answered j h') ∙ sym link.joins)
+      ∙ tups-append ((f.joiner j).from_feeder p) link.rest in
+      let its =
+      all_sent P setting.k j rest.line.epoch rest.line.shift (feeder_start input setting rest p).batches
+      (agrees.taken_by_feeder p) (granted_stamps input setting valid rest stands f agrees p h) in
+      all-front P (tups ((f.joiner j).from_feeder p)) (tups link.rest) (subst (AllByRecursion P) is its)
 
 -- ---- how many joiners hold a ticket
 

@@ -328,7 +328,7 @@ module _ (input : Input) (setting : Setting) (rest : Rest) (f : Family) (valid :
       → (took j).from_joiner i ++ m ∷ more ≡ (f.joiner j).from_joiner i
       → (n e : ℕ) → n < (agrees.joiners j h).done → j ≡ partner (low_of n) i → IsOfEpoch e m
       → e ≡ rest.line.epoch + n + 1 → ⊥
-  no_later i j hi h more m is n e low to_j of_e at =
+  no_later i j hi h more m is n e low = λ to_j of_e at.
       let law = agrees.joiners j h in
       let before : n < opened (start j) (took j) = omega (arith, done_opened j h) in
       let other : partner_of (start j) (took j) n ≡ i =

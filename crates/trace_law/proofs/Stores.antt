@@ -104,21 +104,22 @@ module _ (all A B M N : List Tuple) (k b b' e j q : ℕ) (x : Side)
         rw (parts, parts', kept, came, new, whole) three;
   }
 
--- where the joiner and its partner each have stored all that they hold at b, and all that the partner had moved
--- and all that feeders sent has come, the joiner has stored all that it holds at the next shift
-pub rising_step : (all A B M N : List Tuple) (k b e j : ℕ) → b < k → k ≤ 8
-    → SameBag A (filter (is_stored k b e j) all) → SameBag B (filter (is_stored k b e (partner b j)) all)
-    → SameBag M (filter (is_of R) B) → SameBag N (filter (λ t. (t.stamp == e + 1) && holds k (b + 1) j t) all)
-    → SameBag (filter (holds k (b + 1) j) A ++ M ++ N) (filter (is_stored k (b + 1) (e + 1) j) all)
-rising_step all A B M N k b e j below small mine its moved arrived =
-    step_sums all A B M N k b (b + 1) e j (partner b j) R mine its moved arrived
-    (λ t n. at_rising k b e j below small t.side t.ticket t.stamp n)
+module _ (all A B M N : List Tuple) (k b e j : ℕ) where
+  -- where the joiner and its partner each have stored all that they hold at b, and all that the partner had moved
+  -- and all that feeders sent has come, the joiner has stored all that it holds at the next shift
+  pub rising_step : b < k → k ≤ 8
+      → SameBag A (filter (is_stored k b e j) all) → SameBag B (filter (is_stored k b e (partner b j)) all)
+      → SameBag M (filter (is_of R) B) → SameBag N (filter (λ t. (t.stamp == e + 1) && holds k (b + 1) j t) all)
+      → SameBag (filter (holds k (b + 1) j) A ++ M ++ N) (filter (is_stored k (b + 1) (e + 1) j) all)
+  rising_step below small mine its moved arrived =
+      step_sums all A B M N k b (b + 1) e j (partner b j) R mine its moved arrived
+      (λ t n. at_rising k b e j below small t.side t.ticket t.stamp n)
 
--- so it is from shift b + 1 to b, where the partner had moved its tuples of S
-pub falling_step : (all A B M N : List Tuple) (k b e j : ℕ) → b < k → k ≤ 8
-    → SameBag A (filter (is_stored k (b + 1) e j) all) → SameBag B (filter (is_stored k (b + 1) e (partner b j)) all)
-    → SameBag M (filter (is_of S) B) → SameBag N (filter (λ t. (t.stamp == e + 1) && holds k b j t) all)
-    → SameBag (filter (holds k b j) A ++ M ++ N) (filter (is_stored k b (e + 1) j) all)
-falling_step all A B M N k b e j below small mine its moved arrived =
-    step_sums all A B M N k (b + 1) b e j (partner b j) S mine its moved arrived
-    (λ t n. at_falling k b e j below small t.side t.ticket t.stamp n)
+  -- so it is from shift b + 1 to b, where the partner had moved its tuples of S
+  pub falling_step : b < k → k ≤ 8
+      → SameBag A (filter (is_stored k (b + 1) e j) all) → SameBag B (filter (is_stored k (b + 1) e (partner b j)) all)
+      → SameBag M (filter (is_of S) B) → SameBag N (filter (λ t. (t.stamp == e + 1) && holds k b j t) all)
+      → SameBag (filter (holds k b j) A ++ M ++ N) (filter (is_stored k b (e + 1) j) all)
+  falling_step below small mine its moved arrived =
+      step_sums all A B M N k (b + 1) b e j (partner b j) S mine its moved arrived
+      (λ t n. at_falling k b e j below small t.side t.ticket t.stamp n)

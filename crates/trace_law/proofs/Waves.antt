@@ -82,29 +82,29 @@ IsSmall a c wave = (row_count wave.0 R < 2 ^ a) × (row_count wave.0 S < 2 ^ c)
 abbrev HasFew : ℕ → ℕ → TurnLine → Type 0
 HasFew a c line = (line.rows_r < 2 ^ a) × (line.rows_s < 2 ^ c)
 
--- of one wave
-wave_counts : (a c : ℕ) (input : Input) (setting : Setting) (line : TurnLine) (journal backwards : List TurnLine)
-    → reverse journal ≡ backwards
-    → 0 < setting.feeders → 0 < setting.batch → line.rows_r ≤ row_count input R → line.rows_s ≤ row_count input S
-    → IsLawful (rules_of setting) (begun line) (λ p. map size_of (batches input setting line p)) journal
-    → IsSmall a c (input, journal) → HasFew a c (last_line line journal)
-wave_counts a c input setting line journal [] is some batch within_r within_s lawful small =
-    absurd (subst (λ ls. Follows (rules_of setting) (begun line) ls) is lawful.so_far.follows)
-wave_counts a c input setting line journal (last ∷ past) is some batch within_r within_s lawful small =
-    let rest : Rest = record { line = line; stores = λ j. [] } in
-    let follows : Follows (rules_of setting) (begun line) (last ∷ past) =
-    subst (λ ls. Follows (rules_of setting) (begun line) ls) is lawful.so_far.follows in
-    let journal_is : journal ≡ reverse (last ∷ past) = sym (reverse-reverse journal) ∙ ap reverse is in
-    let counts : (p : ℕ) → p < setting.feeders
-    → IsPrefix (causes_of p (reverse (last ∷ past))) (all_causes p (map size_of (batches input setting line p))) =
-    λ p low.
-    subst (λ ls. IsPrefix (causes_of p ls) (all_causes p (map size_of (batches input setting line p)))) journal_is
-    (lawful.so_far.counts p low) in
-    let last_is : last_line line journal ≡ last =
-    ap (last_line line) (journal_is ∙ reverse-append (last ∷ []) past) ∙ last_line_is line (reverse past) last in
-    let r = few_r input setting some batch rest within_r within_s last past follows counts in
-    let s = few_s input setting some batch rest within_r within_s last past follows counts in
-    rw last_is (omega (arith, r, small.0), omega (arith, s, small.1))
+module _ (a c : ℕ) (input : Input) (setting : Setting) (line : TurnLine) where
+  -- of one wave
+  wave_counts : (journal backwards : List TurnLine) → reverse journal ≡ backwards
+      → 0 < setting.feeders → 0 < setting.batch → line.rows_r ≤ row_count input R → line.rows_s ≤ row_count input S
+      → IsLawful (rules_of setting) (begun line) (λ p. map size_of (batches input setting line p)) journal
+      → IsSmall a c (input, journal) → HasFew a c (last_line line journal)
+  wave_counts journal [] is some batch within_r within_s lawful small =
+      absurd (subst (λ ls. Follows (rules_of setting) (begun line) ls) is lawful.so_far.follows)
+  wave_counts journal (last ∷ past) is some batch within_r within_s lawful small =
+      let rest : Rest = record { line = line; stores = λ j. [] } in
+      let follows : Follows (rules_of setting) (begun line) (last ∷ past) =
+      subst (λ ls. Follows (rules_of setting) (begun line) ls) is lawful.so_far.follows in
+      let journal_is : journal ≡ reverse (last ∷ past) = sym (reverse-reverse journal) ∙ ap reverse is in
+      let counts : (p : ℕ) → p < setting.feeders
+      → IsPrefix (causes_of p (reverse (last ∷ past))) (all_causes p (map size_of (batches input setting line p))) =
+      λ p low.
+      subst (λ ls. IsPrefix (causes_of p ls) (all_causes p (map size_of (batches input setting line p)))) journal_is
+      (lawful.so_far.counts p low) in
+      let last_is : last_line line journal ≡ last =
+      ap (last_line line) (journal_is ∙ reverse-append (last ∷ []) past) ∙ last_line_is line (reverse past) last in
+      let r = few_r input setting some batch rest within_r within_s last past follows counts in
+      let s = few_s input setting some batch rest within_r within_s last past follows counts in
+      rw last_is (omega (arith, r, small.0), omega (arith, s, small.1))
 
 -- of all
 waves_count : (a c : ℕ) (setting : Setting) (line : TurnLine) (waves : List (Input × List TurnLine))
