@@ -16,16 +16,18 @@ fn a_copy_has_all_of_its_tuple(rt: HostRuntime) -> Result<(), Fail> {
     };
     let copy = tuple.copy()?;
     assert!(rt; copy.side == Side::S, "side");
-    assert_eq!(rt;
-        (copy.index, copy.ticket, copy.stamp),
-        (7, 255, 3),
+    assert!(rt;
+        (copy.index, copy.ticket, copy.stamp) == (7, 255, 3),
         "numbers"
     );
-    assert_eq!(rt; copy.cells.len(), 1, "cells");
+    assert!(rt; copy.cells.len() == 1, "cells");
     let cell = copy.cells.at(0);
-    assert_eq!(rt; cell.num, Some(42), "number of the cell");
-    assert_eq!(rt; cell.text.as_slice(), b"42".as_slice(), "text of the cell");
-    assert_eq!(rt; tuple.stamp, 3, "the tuple itself");
+    assert!(rt; cell.num == Some(42), "number of the cell");
+    assert!(rt;
+        cell.text.as_slice() == b"42".as_slice(),
+        "text of the cell"
+    );
+    assert!(rt; tuple.stamp == 3, "the tuple itself");
     Ok(())
 }
 
@@ -82,13 +84,13 @@ fn held_messages_leave_in_order(rt: HostRuntime) -> Result<(), Fail> {
     held.hold(1, 6)?;
     held.hold(1, 7)?;
     held.hold(1, 8)?;
-    assert_eq!(rt; held.count(), 4, "all");
-    assert_eq!(rt; held.first(1).copied(), Some(5), "first");
+    assert!(rt; held.count() == 4, "all");
+    assert!(rt; held.first(1).copied() == Some(5), "first");
     assert!(rt; held.is_clear(0) && !held.is_clear(1), "of each sender");
-    assert_eq!(rt; held.take_first(1), Some(5), "first taken");
-    assert_eq!(rt; held.take_first(1), Some(6), "second taken");
-    assert_eq!(rt; held.take_first(0), None, "of the other");
-    assert_eq!(rt; held.count(), 2, "left");
+    assert!(rt; held.take_first(1) == Some(5), "first taken");
+    assert!(rt; held.take_first(1) == Some(6), "second taken");
+    assert!(rt; held.take_first(0) == None, "of the other");
+    assert!(rt; held.count() == 2, "left");
     assert!(rt; !held.is_empty(), "two are left");
     assert!(rt; held.first(2).is_none(), "no such sender");
     Ok(())

@@ -9,9 +9,9 @@ fn tickets_meet_at_one_joiner(rt: HostRuntime) {
     let cases = [(2, 3, 2), (3, 1, 6)];
     for (shift, row, column) in cases {
         let shape = Shape { k: 4, shift };
-        assert_eq!(rt; row_of(shape, 208), row, "row at shift {shift}");
-        assert_eq!(rt; col_of(shape, 6), column, "column at shift {shift}");
-        assert_eq!(rt; meet(shape, 208, 6), 14, "joiner at shift {shift}");
+        assert!(rt; row_of(shape, 208) == row, "row at shift {shift}");
+        assert!(rt; col_of(shape, 6) == column, "column at shift {shift}");
+        assert!(rt; meet(shape, 208, 6) == 14, "joiner at shift {shift}");
         assert!(rt;
             holds_r(shape, 14, 208) && holds_s(shape, 14, 6),
             "held at shift {shift}"
@@ -29,9 +29,8 @@ fn the_best_shift_stays_at_a_tie_and_else_is_the_smallest(rt: HostRuntime) {
         (1, 256, 64, 1024),
     ];
     for (shift, x, y, want) in copies_of {
-        assert_eq!(rt;
-            copies(Shape { k: 4, shift }, ONE, x, y),
-            want,
+        assert!(rt;
+            copies(Shape { k: 4, shift }, ONE, x, y) == want,
             "shift {shift}, {x} rows"
         );
     }
@@ -46,9 +45,8 @@ fn the_best_shift_stays_at_a_tie_and_else_is_the_smallest(rt: HostRuntime) {
         (4, 2, 128, 64, 2),
     ];
     for (k, shift, x, y, want) in cases {
-        assert_eq!(rt;
-            best_shift(Shape { k, shift }, ONE, x, y),
-            want,
+        assert!(rt;
+            best_shift(Shape { k, shift }, ONE, x, y) == want,
             "shift {shift}, {x} and {y} rows"
         );
     }
@@ -59,9 +57,8 @@ fn a_heavy_side_moves_the_best_shift(rt: HostRuntime) {
     let weights = Weights { r: 4, s: 1 };
     let cases = [(0, 64), (1, 80), (2, 136)];
     for (shift, want) in cases {
-        assert_eq!(rt;
-            copies(Shape { k: 2, shift }, weights, 8, 8),
-            want,
+        assert!(rt;
+            copies(Shape { k: 2, shift }, weights, 8, 8) == want,
             "shift {shift}"
         );
     }

@@ -16,7 +16,7 @@ use worker_gate::NoGate;
 
 // That these are equal: one call, where an assertion in its place is dear to prove.
 fn is<T: Copy + Debug + PartialEq>(rt: &impl Abort, seen: T, wanted: T, what: &str) {
-    assert_eq!(rt; seen, wanted, "{what}");
+    assert!(rt; seen == wanted, "{what}");
 }
 
 // Two feeders and two workers; the number of joiners in it isn't used.
@@ -80,7 +80,10 @@ fn sizes_are_those_of_the_binary_digits(rt: HostRuntime) -> Result<(), Fail> {
         (64, 64),
     ];
     for (joiners, wanted) in cases {
-        assert_eq!(rt; sizes_of(rt.alloc(), joiners)?, wanted, "{joiners} joiners");
+        assert!(rt;
+            sizes_of(rt.alloc(), joiners)? == wanted,
+            "{joiners} joiners"
+        );
     }
     Ok(())
 }
@@ -97,9 +100,8 @@ fn each_number_is_of_one_group(rt: HostRuntime) -> Result<(), Fail> {
         (64, 63, 0),
     ];
     for (joiners, number, wanted) in cases {
-        assert_eq!(rt;
-            group_at(joiners, number),
-            Some(wanted),
+        assert!(rt;
+            group_at(joiners, number) == Some(wanted),
             "{number} of {joiners}"
         );
     }

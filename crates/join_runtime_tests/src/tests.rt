@@ -18,7 +18,7 @@ use worker_gate::{Gate, NoGate, PairGate};
 
 // That these are equal: one call, where an assertion in its place is dear to prove.
 fn is<T: Copy + Debug + PartialEq>(rt: &impl Abort, seen: T, wanted: T, what: &str) {
-    assert_eq!(rt; seen, wanted, "{what}");
+    assert!(rt; seen == wanted, "{what}");
 }
 
 // Four joiners.
@@ -115,7 +115,7 @@ fn finds_the_pairs<R: Abort + Threads + Wait + Sync>(
 ) -> Result<(), AllocError> {
     let tickets = [161, 123, 186];
     let seen = seen_of_three(rt, alloc, tickets, &setting(2, workers), &NoGate)?;
-    assert_eq!(rt; seen.pairs, PAIRS, "with {workers} workers");
+    assert!(rt; seen.pairs == PAIRS, "with {workers} workers");
     assert!(rt; seen.bouts > 0, "bouts with {workers} workers");
     Ok(())
 }

@@ -76,7 +76,7 @@ fn tells<R: Abort + Threads>(
     let words = words(alloc, line)?;
     let mut shelf = KeptShelf::new(alloc, shelf_of(alloc, files)?);
     let (status, text) = told(rt, alloc, &words, &mut shelf)?;
-    assert_eq!(rt; text.as_str(), wanted.1, "{line}");
-    assert_eq!(rt; status, wanted.0, "{line}");
+    assert!(rt; text.as_str() == wanted.1, "{line}");
+    assert!(rt; status == wanted.0, "{line}");
     Ok(())
 }

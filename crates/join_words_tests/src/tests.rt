@@ -312,7 +312,7 @@ fn tells_the_first_fault(rt: HostRuntime) -> Result<(), Fail> {
     ];
     for (line, fault) in cases {
         let wanted = Some(WordsError::Fault(fault));
-        assert_eq!(rt; refusal(rt.alloc(), line)?, wanted, "{line}");
+        assert!(rt; refusal(rt.alloc(), line)? == wanted, "{line}");
     }
     Ok(())
 }

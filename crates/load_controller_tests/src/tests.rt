@@ -126,8 +126,8 @@ fn expect(
     wanted: (&str, &str),
 ) -> Result<(), AllocError> {
     let (posts, lines) = after(alloc, controller, messages)?;
-    assert_eq!(rt; posts.as_str(), wanted.0, "posts");
-    assert_eq!(rt; lines.as_str(), wanted.1, "lines");
+    assert!(rt; posts.as_str() == wanted.0, "posts");
+    assert!(rt; lines.as_str() == wanted.1, "lines");
     Ok(())
 }
 

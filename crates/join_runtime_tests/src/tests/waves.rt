@@ -250,9 +250,8 @@ fn each_has_new_pairs<R: Abort + Threads + Wait + Sync>(
 ) -> Result<(), AllocError> {
     for (rows, wanted) in WAVES {
         let pairs = second_pairs(rt, alloc, input, rows)?;
-        assert_eq!(rt;
-            pairs,
-            (wanted, wanted),
+        assert!(rt;
+            pairs == (wanted, wanted),
             "new pairs, and pairs, behind {rows}"
         );
     }

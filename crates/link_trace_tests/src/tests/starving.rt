@@ -93,7 +93,7 @@ fn replays_have_17_events<R: Abort + Wait>(
 ) -> Result<(), AllocError> {
     for seed in 0..32 {
         let size = size_of_replay(rt, alloc, input, seed)?;
-        assert_eq!(rt; size, (17, 3), "seed {seed}");
+        assert!(rt; size == (17, 3), "seed {seed}");
     }
     Ok(())
 }

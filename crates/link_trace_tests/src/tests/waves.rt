@@ -150,9 +150,8 @@ fn splits<R: Abort + Wait>(
     let (rows_r, rows_s, one, other) = told;
     let rows = (rows_r, rows_s);
     let pairs = pairs_of_two(rt, alloc, input, &four_joiners(), rows, seed)?;
-    assert_eq!(rt;
-        pairs,
-        (one, other),
+    assert!(rt;
+        pairs == (one, other),
         "{rows_r} and {rows_s} rows first, seed {seed}"
     );
     Ok(())

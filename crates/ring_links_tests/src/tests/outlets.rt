@@ -29,13 +29,13 @@ fn what_waits_is_put_in_its_order(rt: HostRuntime) -> Result<(), Fail> {
     let mut outlet = Outlet::new(rt.alloc(), out);
     add_up_to(&mut outlet, 5)?;
     let first = flush_and_take(&mut outlet, &mut inn);
-    assert_eq!(rt; first, (true, 3, Some(1), Some(2)), "two places");
+    assert!(rt; first == (true, 3, Some(1), Some(2)), "two places");
     let second = flush_and_take(&mut outlet, &mut inn);
-    assert_eq!(rt; second, (true, 1, Some(3), Some(4)), "two more");
+    assert!(rt; second == (true, 1, Some(3), Some(4)), "two more");
     let third = flush_and_take(&mut outlet, &mut inn);
-    assert_eq!(rt; third, (true, 0, Some(5), None), "the last");
+    assert!(rt; third == (true, 0, Some(5), None), "the last");
     let fourth = flush_and_take(&mut outlet, &mut inn);
-    assert_eq!(rt; fourth, (false, 0, None, None), "nothing more");
+    assert!(rt; fourth == (false, 0, None, None), "nothing more");
     Ok(())
 }
 
@@ -53,8 +53,8 @@ fn what_finds_no_place_waits(rt: HostRuntime) -> Result<(), Fail> {
     let mut outlet = Outlet::new(rt.alloc(), out);
     add_up_to(&mut outlet, 2)?;
     let first = flush_beside(&mut outlet, &mut inn);
-    assert_eq!(rt; first, (true, 1), "one place");
+    assert!(rt; first == (true, 1), "one place");
     assert!(rt; !outlet.flush(), "no other");
-    assert_eq!(rt; outlet.waiting(), 1, "waits");
+    assert!(rt; outlet.waiting() == 1, "waits");
     Ok(())
 }

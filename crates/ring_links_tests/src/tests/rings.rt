@@ -14,19 +14,18 @@ fn a_ring_of_two_places_takes_two_messages(rt: HostRuntime) -> Result<(), Fail> 
     let first = put(&mut out, 1);
     let second = put(&mut out, 2);
     let third = put(&mut out, 3);
-    assert_eq!(rt;
-        (first, second, third),
-        (None, None, Some(3)),
+    assert!(rt;
+        (first, second, third) == (None, None, Some(3)),
         "what comes back"
     );
     assert!(rt; out.refused(), "the last put");
-    assert_eq!(rt; beside(&mut out, &mut inn), 2, "left");
+    assert!(rt; beside(&mut out, &mut inn) == 2, "left");
     assert!(rt; !out.refused(), "held together");
-    assert_eq!(rt; inn.known(), 2, "known");
+    assert!(rt; inn.known() == 2, "known");
     let taken = (next(&mut inn), next(&mut inn));
-    assert_eq!(rt; taken, (Some(1), Some(2)), "what is taken");
-    assert_eq!(rt; beside(&mut out, &mut inn), 0, "none left");
-    assert_eq!(rt; next(&mut inn), None, "nothing more");
+    assert!(rt; taken == (Some(1), Some(2)), "what is taken");
+    assert!(rt; beside(&mut out, &mut inn) == 0, "none left");
+    assert!(rt; next(&mut inn) == None, "nothing more");
     Ok(())
 }
 
@@ -35,12 +34,12 @@ fn a_ring_of_two_places_takes_two_messages(rt: HostRuntime) -> Result<(), Fail> 
 fn a_ring_of_one_place_takes_one_message_at_a_time(rt: HostRuntime) -> Result<(), Fail> {
     let (mut out, mut inn) = ring(rt.alloc(), Actor::Feeder(0), Actor::Controller, 1)?;
     let refused = (put(&mut out, 1), put(&mut out, 2));
-    assert_eq!(rt; refused, (None, Some(2)), "one place");
-    assert_eq!(rt; next(&mut inn), Some(1), "the first");
+    assert!(rt; refused == (None, Some(2)), "one place");
+    assert!(rt; next(&mut inn) == Some(1), "the first");
     let refused = (put(&mut out, 3), put(&mut out, 4));
-    assert_eq!(rt; refused, (None, Some(4)), "the same place");
+    assert!(rt; refused == (None, Some(4)), "the same place");
     let taken = (next(&mut inn), next(&mut inn));
-    assert_eq!(rt; taken, (Some(3), None), "the second");
+    assert!(rt; taken == (Some(3), None), "the second");
     Ok(())
 }
 
@@ -73,10 +72,10 @@ fn drain(inn: &mut RingIn, count: u32) -> u32
 #[test]
 fn a_ring_of_4096_places_takes_as_many_messages(rt: HostRuntime) -> Result<(), Fail> {
     let (mut out, mut inn) = ring(rt.alloc(), Actor::Feeder(0), Actor::Controller, 4096)?;
-    assert_eq!(rt; fill(&mut out, 4097), 4096, "put");
-    assert_eq!(rt; beside(&mut out, &mut inn), 4096, "left");
-    assert_eq!(rt; drain(&mut inn, 4097), 4096, "taken");
-    assert_eq!(rt; beside(&mut out, &mut inn), 0, "none left");
+    assert!(rt; fill(&mut out, 4097) == 4096, "put");
+    assert!(rt; beside(&mut out, &mut inn) == 4096, "left");
+    assert!(rt; drain(&mut inn, 4097) == 4096, "taken");
+    assert!(rt; beside(&mut out, &mut inn) == 0, "none left");
     Ok(())
 }
 
@@ -109,7 +108,7 @@ fn rounds(out: &mut RingOut, inn: &mut RingIn, count: u32) -> u32
 #[test]
 fn messages_go_round_a_ring_of_three_places(rt: HostRuntime) -> Result<(), Fail> {
     let (mut out, mut inn) = ring(rt.alloc(), Actor::Feeder(0), Actor::Controller, 3)?;
-    assert_eq!(rt; put(&mut out, 0), None, "the first");
-    assert_eq!(rt; rounds(&mut out, &mut inn, 1000), 1000, "rounds");
+    assert!(rt; put(&mut out, 0) == None, "the first");
+    assert!(rt; rounds(&mut out, &mut inn, 1000) == 1000, "rounds");
     Ok(())
 }

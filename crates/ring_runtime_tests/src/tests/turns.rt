@@ -115,9 +115,9 @@ fn two_seats_pass_messages(rt: HostRuntime) -> Result<(), Fail> {
     let [early, begins, answers, sends] = play_two_seats(rt.alloc())?;
     let idle = Some(RingStep::Idle);
     let passes = [Some(RingStep::Took), Some(RingStep::Moved), idle];
-    assert_eq!(rt; early, [idle, idle, idle], "nothing came yet");
-    assert_eq!(rt; begins, passes, "the feeder begins");
-    assert_eq!(rt; answers, passes, "the controller answers");
-    assert_eq!(rt; sends, [None, None, None], "no way to a joiner");
+    assert!(rt; early == [idle, idle, idle], "nothing came yet");
+    assert!(rt; begins == passes, "the feeder begins");
+    assert!(rt; answers == passes, "the controller answers");
+    assert!(rt; sends == [None, None, None], "no way to a joiner");
     Ok(())
 }

@@ -117,7 +117,7 @@ fn text(alloc: Global, pairs: Pairs) -> Result<String, AllocError> {
 fn is_told(rt: &impl Abort, told: &str, probe: Probe<'_>, how: &str) {
     let line = probe.line;
     let which = probe.which;
-    assert_eq!(rt; told, probe.wanted, "{line}, {which:?}{how}");
+    assert!(rt; told == probe.wanted, "{line}, {which:?}{how}");
 }
 
 fn tells(

@@ -43,7 +43,7 @@ pub(super) fn over_x_and_a(alloc: Global, text: &str) -> Result<Theta, AllocErro
 
 // That something is told so.
 pub(super) fn is_told(rt: &impl Abort, told: &str, wanted: &str, of: &str, how: &str, other: &str) {
-    assert_eq!(rt; told, wanted, "{of}{how}{other}");
+    assert!(rt; told == wanted, "{of}{how}{other}");
 }
 
 fn write_sum(text: &mut String, sum: &Linear) -> Result<(), AllocError> {

@@ -49,7 +49,7 @@ fn parts_and_words_out_of_place(rt: HostRuntime) {
         ("Text(r.a) = 'b'", PredFault::Syntax { place: 0 }),
     ];
     for (text, fault) in cases {
-        assert_eq!(rt; parse(rt.alloc(), text).err(), Some(fault), "{text}");
+        assert!(rt; parse(rt.alloc(), text).err() == Some(fault), "{text}");
     }
 }
 
@@ -161,6 +161,6 @@ fn tests_out_of_place_and_texts_past_the_limits(rt: HostRuntime) {
         ),
     ];
     for (text, fault) in cases {
-        assert_eq!(rt; parse(rt.alloc(), text).err(), Some(fault), "{text}");
+        assert!(rt; parse(rt.alloc(), text).err() == Some(fault), "{text}");
     }
 }
