@@ -15,7 +15,7 @@ ghost use Rattle.actor_core.specs.Tasks.{task_of};
 ghost use Rattle.join_report.specs.PairLines.{pair_lines};
 ghost use Rattle.join_runtime.specs.declared.early_lines.EarlyFault.TheVariants.{Memory as Memory', Write as Write'};
 ghost use Rattle.join_runtime.specs.Endings.{lists_left};
-ghost use Rattle.join_runtime.specs.Early.{WroteEach, WroteSome};
+ghost use Rattle.join_runtime.specs.Early.{EndsEarly, WroteEach, WroteSome};
 
 use crate::bouts::{Seats, bout_by};
 use crate::ends::Told;
@@ -177,8 +177,14 @@ pub fn run_early<R: Threads + Wait + Sync, G: Gate + Sync, K: Sink>(
         thread::scope_env(),
         rt,
         move |scope|
-            requires { (IsValidInput input.now × IsValidSetting setting.now)
-                × (K.faults sink.now < last_fault) }
+            requires input { IsValidInput input.now }
+            requires setting { IsValidSetting setting.now }
+            requires sink { K.faults sink.now < last_fault }
+            ensures same_reference { result.1.ghost_name ≡ sink.entry.ghost_name }
+            ensures ends { EndsEarly input.entry.now setting.entry.now
+                (K.written sink.entry.now) (K.written result.1.now)
+                (K.takes sink.entry.now) (K.takes result.1.now)
+                (K.faults sink.entry.now) (K.faults result.1.now) result.0 }
         {
             let mut pool = pool_of(rt, alloc, scope, signals, turns);
             let told = run_early_by(rt, alloc, input, setting, gate, sink, &mut pool);
