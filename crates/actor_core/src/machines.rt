@@ -24,6 +24,14 @@ pub enum Core<'a> {
     Collector(Collector),
 }
 
+// Lets go of what a machine doesn't take.
+fn refused<T: Drop>(message: T) -> Result<(), AllocError>
+    ensures { OnOk result ⊥ }
+{
+    drop(message);
+    Err(AllocError)
+}
+
 impl<'a> Core<'a> {
     /// Takes a message and appends what it sends. A strange message answers the error too.
     pub fn on(&mut self, from: Actor, msg: Msg, sends: &mut Sends) -> Result<(), AllocError>
@@ -36,24 +44,24 @@ impl<'a> Core<'a> {
         match self {
             Core::Feeder(feeder) => match (from, msg) {
                 (Actor::Controller, Msg::Feeder(m)) => feeder.on(m, sends),
-                _ => Err(AllocError),
+                strange => refused(strange),
             },
             Core::Joiner(joiner) => match msg {
                 Msg::Joiner(m) => {
                     if joiner.is_spent() || !joiner.hears(from) || !joiner.fits(&m) {
-                        return Err(AllocError);
+                        return refused(m);
                     }
                     joiner.on(from, m, sends)
                 }
-                _ => Err(AllocError),
+                strange => refused(strange),
             },
             Core::Controller(controller) => match msg {
                 Msg::Controller(m) => controller.on(from, m, sends),
-                _ => Err(AllocError),
+                strange => refused(strange),
             },
             Core::Collector(collector) => match msg {
                 Msg::Collector(m) => collector.on(from, m),
-                _ => Err(AllocError),
+                strange => refused(strange),
             },
         }
     }

@@ -120,9 +120,17 @@ pub fn run_chain<R: Threads + Wait + Sync, G: Gate + Sync>(
     let told = whole_run(rt, alloc, first, setting, &EarlierGate::new(gate))?;
     let pairs = told.run.pairs.len();
     if pairs > 1 << 18 {
+        gate.let_go(told);
+        gate.let_go(third);
         return Err(ChainFault::Between { pairs });
     }
-    let second = second_input(alloc, first, told.run.pairs.as_slice(), third, seed)?;
+    let second = match second_input(alloc, first, told.run.pairs.as_slice(), third, seed) {
+        Ok(second) => second,
+        Err(_) => {
+            gate.let_go(told);
+            return Err(ChainFault::Memory);
+        }
+    };
     let ran = run_second(rt, alloc, told.run.pairs.as_slice(), &second, setting, gate);
     gate.let_go(second);
     match ran {

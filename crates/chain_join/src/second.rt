@@ -69,6 +69,28 @@ fn joined_side(
     Ok((table, tickets))
 }
 
+// The joined rows' side, and the tickets of the third table's rows.
+fn sides(
+    alloc: Global,
+    first: &Input,
+    pairs: &[Pair],
+    rows: &Rows,
+    seed: u64,
+) -> Result<(Table, Bytes, Bytes), AllocError>
+    requires { pairs.now ≡ nested_loop first.now }
+    ensures names { IfOk result (λ sides. sides.0.names
+        ≡ joined_names' first.now.table_r.names first.now.table_s.names) }
+    ensures rows { IfOk result (λ sides. sides.0.rows ≡ joined_rows' first.now) }
+    ensures tickets_r { IfOk result (λ sides. sides.1 ≡ tickets_of seed Side.R sides.0.rows) }
+    ensures tickets_s { IfOk result (λ sides. sides.2 ≡ tickets_of seed Side.S rows.now) }
+    ensures bytes_r { IfOk result (λ sides. All (λ ticket. ticket < 2 ^ 8) sides.1) }
+    ensures bytes_s { IfOk result (λ sides. All (λ ticket. ticket < 2 ^ 8) sides.2) }
+{
+    let tickets_s = drawn(alloc, seed, Side::S, rows)?;
+    let (table_r, tickets_r) = joined_side(alloc, first, pairs, seed)?;
+    Ok((table_r, tickets_r, tickets_s))
+}
+
 /// What the second run joins: the joined rows of the first run's pairs, with the third table.
 pub(crate) fn second_input(
     alloc: Global,
@@ -87,13 +109,17 @@ pub(crate) fn second_input(
     ensures is { IfOk result (λ input. input ≡ second_input' first.now third seed) }
     ensures valid { IfOk result IsValidInput }
 {
-    let tickets_s = drawn(alloc, seed, Side::S, &third.table.rows)?;
-    let (table_r, tickets_r) = joined_side(alloc, first, pairs, seed)?;
-    Ok(Input {
-        table_r,
-        table_s: third.table,
-        theta: third.theta,
-        tickets_r,
-        tickets_s,
-    })
+    match sides(alloc, first, pairs, &third.table.rows, seed) {
+        Ok((table_r, tickets_r, tickets_s)) => Ok(Input {
+            table_r,
+            table_s: third.table,
+            theta: third.theta,
+            tickets_r,
+            tickets_s,
+        }),
+        Err(refused) => {
+            drop(third);
+            Err(refused)
+        }
+    }
 }

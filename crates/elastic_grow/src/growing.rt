@@ -62,8 +62,9 @@ fn placed(
     ensures { IfOk result (λ placed. AreOfOne theta.now k old shift stores.now placed) }
 {
     let whole = whole(alloc, theta, k, old, stores)?;
-    let parts = of_one(alloc, Shape { k: k + 2, shift }, &whole)?;
-    Ok(parts)
+    let parts = of_one(alloc, Shape { k: k + 2, shift }, &whole);
+    drop(whole);
+    parts
 }
 
 // The stores of the grown grid: parts of their parents' stores where the shift is one more, else placed anew.
@@ -84,11 +85,9 @@ fn grown_stores(
         → AreOfOne theta.now k old shift stores.now grown) }
 {
     if shift == old + 1 {
-        let parts = of_parents(alloc, Shape { k: k + 2, shift }, old, stores)?;
-        Ok(parts)
+        of_parents(alloc, Shape { k: k + 2, shift }, old, stores)
     } else {
-        let anew = placed(alloc, theta, k, old, shift, stores)?;
-        Ok(anew)
+        placed(alloc, theta, k, old, shift, stores)
     }
 }
 

@@ -8,7 +8,7 @@ ghost use Rattle.migration_plan.specs.Steps.{is_of};
 ghost use Rattle.store_parts.specs.Matches.{HasWidth};
 ghost use Rattle.store_parts.specs.Stored.{AreSided};
 ghost use Rattle.joiner_core.specs.State.{tuples_of, IsKeyOf};
-ghost use Rattle.elastic_grow.specs.Stores.{side_at, with_all, IsWhole};
+ghost use Rattle.elastic_grow.specs.Stores.{all_of, side_at, with_all, IsWhole};
 
 use crate::split::power;
 use epoch_tags::{Tuple, Tuples};
@@ -121,6 +121,19 @@ pub(crate) fn add_all(
     Ok(())
 }
 
+// The tuples of the stores of a grid of this shape, each once: those of R in its first column, and those of S in its
+// first row behind them.
+fn all_tuples(alloc: Global, k: u32, shift: u32, stores: &[Store]) -> Result<Tuples, AllocError>
+    requires k { k ≤ 6 }
+    requires shift { shift ≤ k }
+    ensures { IfOk result (λ all. all ≡ all_of k shift stores.now) }
+{
+    let mut all = gathered(alloc, stores, Side::R, power(k - shift), power(shift))?;
+    let more = gathered(alloc, stores, Side::S, power(shift), 1)?;
+    add_copies(&mut all, more.as_slice())?;
+    Ok(all)
+}
+
 // A store with all rows of the stores of a grid of this shape.
 pub(crate) fn whole(
     alloc: Global,
@@ -133,10 +146,13 @@ pub(crate) fn whole(
     requires shift { shift ≤ k }
     ensures { IfOk result (λ whole. IsWhole theta.now k shift stores.now whole) }
 {
-    let mut all = gathered(alloc, stores, Side::R, power(k - shift), power(shift))?;
-    let more = gathered(alloc, stores, Side::S, power(shift), 1)?;
-    add_copies(&mut all, more.as_slice())?;
+    let all = all_tuples(alloc, k, shift, stores)?;
     let mut store = first_store(alloc, theta)?;
-    add_all(&mut store, theta, by_index(all))?;
-    Ok(store)
+    match add_all(&mut store, theta, by_index(all)) {
+        Ok(()) => Ok(store),
+        Err(refused) => {
+            drop(store);
+            Err(refused)
+        }
+    }
 }

@@ -155,7 +155,9 @@ fn join_parts<R: Threads + Wait + Sync, G: Gate + Sync>(
 {
     let places = digits(alloc, dealt.joiners)?;
     let mut group_input = no_part(alloc, dealt.input)?;
-    join_all(rt, alloc, dealt, &places, setting, gate, &mut group_input)
+    let joined = join_all(rt, alloc, dealt, &places, setting, gate, &mut group_input);
+    drop(group_input);
+    joined
 }
 
 /// Joins in groups of joiners, so many in all: a run for each group, over the rows of R whose number is of the group

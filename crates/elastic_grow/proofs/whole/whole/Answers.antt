@@ -1,18 +1,8 @@
-use Rattle.std.proofs.Common.{◌*◌, ◌++◌, ◌∙◌, ap, ap₂, ℕ, List}
-use Rattle.row_cells.specs.declared.table.Side.TheVariants.{R, S}
-use Rattle.row_cells.specs.Lists.{gather}
-use Rattle.epoch_tags.specs.declared.tuple.Tuple.{Tuple}
-use Rattle.elastic_grow.specs.Stores.{side_at}
 use Rattle.elastic_grow.proofs.OneStore.{whole_is}
 use Rattle.elastic_grow.proofs.whole.whole.Goals as goal
 
-pub returns : goal.returns
-returns c =
-    let stores = c.args.stores.now in
-    let r = c.in_ok-all.ensures
-    ∙ ap₂ (λ (n step : ℕ). gather n (λ i. side_at stores R (i * step))) c.power.ensures c.power-2.ensures in
-    let s = c.in_ok-more.ensures ∙ ap (λ (n : ℕ). gather n (λ i. side_at stores S (i * 1))) c.power-3.ensures in
-    let all = c.in_ok-add_copies.ensures ∙ ap₂ (λ (us vs : List Tuple). us ++ vs) r (c.as_slice.ensures ∙ s) in
-    whole_is c.args.theta.now c.args.k c.args.shift stores c.in_ok-store.store c.add_all.new.store
-    c.add_copies.new.all c.by_index.result.items c.in_ok-store.ensures.empty c.in_ok-store.ensures.key all
-    c.by_index.ensures.permutation c.by_index.ensures.order c.in_ok-add_all.ensures
+pub returns-in-Ok : goal.returns-in-Ok
+returns-in-Ok c =
+    whole_is c.args.theta.now c.args.k c.args.shift c.args.stores.now c.in_ok-store.store c.add_all.new.store
+    c.in_ok-all.all c.by_index.result.items c.in_ok-store.ensures.empty c.in_ok-store.ensures.key
+    c.in_ok-all.ensures c.by_index.ensures.permutation c.by_index.ensures.order c.in-Ok.ensures

@@ -14,8 +14,8 @@ returns-in-Controller-Feeder-clause-occurs c =
     (on_ok_weaker c.on.result (feeder_takes c.in-Feeder.feeder c.on.new.self c.in-Controller-Feeder.m c.args.sends.now
     c.on.new.sends) c.on.ensures.takes)
 
-pub returns-in-Joiner-msg-clause-occurs : goal.returns-in-Joiner-msg-clause-occurs
-returns-in-Joiner-msg-clause-occurs c =
+pub returns-else-not-fits-clause-occurs : goal.returns-else-not-fits-clause-occurs
+returns-else-not-fits-clause-occurs c =
     let on = c.on-in-Joiner-msg in
     rw (c.in-Joiner.is, c.in-Joiner-msg.is)
     (by_both on.result (λ t going. joiner_takes c.in-Joiner.joiner on.new.self c.args.from c.in-Joiner-msg.m
@@ -39,8 +39,8 @@ pub returns-in-Controller-Feeder-clause-grows : goal.returns-in-Controller-Feede
 returns-in-Controller-Feeder-clause-grows c = none_grows c.on.result c.args.self.now (TheFeeder c.on.new.self)
     (ap journal_of c.in-Feeder.is) refl
 
-pub returns-in-Joiner-msg-clause-grows : goal.returns-in-Joiner-msg-clause-grows
-returns-in-Joiner-msg-clause-grows c =
+pub returns-else-not-fits-clause-grows : goal.returns-else-not-fits-clause-grows
+returns-else-not-fits-clause-grows c =
     none_grows c.on-in-Joiner-msg.result c.args.self.now (TheJoiner c.on-in-Joiner-msg.new.self)
     (ap journal_of c.in-Joiner.is) refl
 
