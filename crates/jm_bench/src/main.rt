@@ -8,22 +8,19 @@
 
 mod replays;
 mod rounds;
+mod stores;
 
-ghost use Rattle.std.specs.Prelude.{◌≡◌, ◌<◌, length, All, IfOk};
+ghost use Rattle.std.specs.Prelude.{◌≡◌, length, All, IfOk};
 ghost use Rattle.ruled_links.specs.Inboxes.{Differ};
-ghost use Rattle.store_parts.specs.Accessed.{IsOwnAccess};
-ghost use Rattle.store_parts.specs.Keyed.{IsOwn};
-ghost use Rattle.store_parts.specs.Stored.{HaveWidths};
 
-use epoch_tags::{Actor, Envelope, Msg, Pairs, ToController, Tuple};
-use row_cells::{Bytes, Cell, Cells, Items, Names, Side};
+use epoch_tags::{Actor, Envelope, Msg, ToController};
+use row_cells::{Bytes, Cell, Cells, Items, Names};
 use ruled_links::{Actors, Inbox, Mouth, inbox};
 use std::alloc::{AllocError, Global};
 use std::marker::Sync;
 use std::sync::Wait;
 use std::thread::Threads;
 use std::{env, io};
-use store_parts::{Store, Which};
 use theta_pred::{Theta, resolve};
 use theta_text::parse;
 
@@ -57,10 +54,15 @@ fn predicate(alloc: Global, text: &str) -> Result<Theta, AllocError>
     let Ok(pred) = parse(alloc, text) else {
         return Err(AllocError);
     };
-    let Ok(theta) = resolve(alloc, &pred, &names_r, &names_s) else {
-        return Err(AllocError);
-    };
-    Ok(theta)
+    let theta = resolve(alloc, &pred, &names_r, &names_s);
+    drop(pred);
+    match theta {
+        Ok(theta) => Ok(theta),
+        Err(fault) => {
+            drop(fault);
+            Err(AllocError)
+        }
+    }
 }
 
 // A row of this number.
@@ -98,106 +100,30 @@ fn matching(theta: &Theta, r: &Cells, rows: &Items<Cells>) -> u32
     count
 }
 
+// How many of so many rows by as many match.
+fn matches(alloc: Global, theta: &Theta, count: u32) -> Result<u32, AllocError>
+    requires r { theta.now.width_r ≡ 1 }
+    requires s { theta.now.width_s ≡ 1 }
+{
+    let rows = rows(alloc, count)?;
+    let mut found = 0u32;
+    for r in rows.as_slice() {
+        found = found.wrapping_add(matching(theta, r, &rows));
+    }
+    drop(rows);
+    Ok(found)
+}
+
 // How many of 2,000 rows by 2,000 match.
 fn holds(alloc: Global) -> Result<u32, AllocError> {
     let theta = predicate(alloc, BAND)?;
-    let rows = rows(alloc, 2000)?;
-    let mut count = 0u32;
-    for r in rows.as_slice() {
-        count = count.wrapping_add(matching(&theta, r, &rows));
-    }
-    Ok(count)
-}
-
-fn tuple(alloc: Global, side: Side, number: u32) -> Result<Tuple, AllocError>
-    ensures side { IfOk result (λ tuple. tuple.side ≡ side) }
-    ensures width { IfOk result (λ tuple. length tuple.cells ≡ 1) }
-{
-    Ok(Tuple {
-        side,
-        index: number,
-        ticket: 0,
-        stamp: 0,
-        cells: row(alloc, number)?,
-    })
-}
-
-fn add(alloc: Global, store: &mut Store, theta: &Theta, number: u32) -> Result<(), AllocError>
-    requires s { theta.now.width_s ≡ 1 }
-    requires widths { HaveWidths theta.now store.old }
-    requires own { IsOwn theta.now store.old.key }
-    requires access { IsOwnAccess theta.now store.old.access }
-    ensures widths { HaveWidths theta.now store.new }
-    ensures own { IsOwn theta.now store.new.key }
-    ensures access { IsOwnAccess theta.now store.new.access }
-{
-    let tuple = tuple(alloc, Side::S, number)?;
-    store.fits_key(theta, &tuple);
-    store.add(tuple)
-}
-
-// A store of this many tuples of S, as a joiner's.
-fn filled(alloc: Global, theta: &Theta, count: u32) -> Result<Store, AllocError>
-    requires s { theta.now.width_s ≡ 1 }
-    ensures widths { IfOk result (λ store. HaveWidths theta.now store) }
-    ensures own { IfOk result (λ store. IsOwn theta.now store.key) }
-    ensures access { IfOk result (λ store. IsOwnAccess theta.now store.access) }
-{
-    let mut store = Store::new(alloc, theta.key_atom()?).with_access(theta.access()?)?;
-    for number in 0..count {
-        add(alloc, &mut store, theta, number)?;
-    }
-    Ok(store)
+    let found = matches(alloc, &theta, 2000);
+    drop(theta);
+    found
 }
 
 // How many tuples a store has, and as many probes.
 const COUNT: u32 = 262144;
-
-// The store alone.
-fn adds(alloc: Global) -> Result<u64, AllocError> {
-    let theta = predicate(alloc, BAND)?;
-    let store = filled(alloc, &theta, COUNT)?;
-    Ok(store.side(Side::S).len())
-}
-
-fn probe(
-    alloc: Global,
-    theta: &Theta,
-    store: &Store,
-    number: u32,
-    found: &mut Pairs,
-) -> Result<(), AllocError>
-    requires r { theta.now.width_r ≡ 1 }
-    requires widths { HaveWidths theta.now store.now }
-    requires own { IsOwn theta.now store.now.key }
-    requires access { IsOwnAccess theta.now store.now.access }
-{
-    let tuple = tuple(alloc, Side::R, number)?;
-    store.find_uncounted(&tuple, theta, Which::All, found)
-}
-
-fn probe_all(alloc: Global, theta: &Theta, store: &Store, modulus: u32) -> Result<u64, AllocError>
-    requires modulus { 0 < modulus }
-    requires r { theta.now.width_r ≡ 1 }
-    requires widths { HaveWidths theta.now store.now }
-    requires own { IsOwn theta.now store.now.key }
-    requires access { IsOwnAccess theta.now store.now.access }
-{
-    let mut found = Pairs::new(alloc);
-    for number in 0..COUNT {
-        probe(alloc, theta, store, number % modulus, &mut found)?;
-    }
-    Ok(found.len())
-}
-
-// How many pairs the probes find, the numbers of the probing rows being taken by this modulus.
-fn probes(alloc: Global, text: &str, modulus: u32) -> Result<u64, AllocError>
-    requires { 0 < modulus }
-{
-    let theta = predicate(alloc, text)?;
-    let store = filled(alloc, &theta, COUNT)?;
-    probe_all(alloc, &theta, &store, modulus)
-}
 
 // The feeders 0, 1, .. , so many.
 fn feeders(alloc: Global, count: u32) -> Result<Actors, AllocError>
@@ -248,11 +174,11 @@ fn number_at<R: Threads + Wait + Sync>(
 ) -> Result<Option<u64>, AllocError> {
     let number = match word {
         "holds" => u64::from(holds(alloc)?),
-        "add" => adds(alloc)?,
-        "store" => probes(alloc, BAND, COUNT)?,
-        "beyond" => probes(alloc, BEYOND, 4)?,
-        "texts" => probes(alloc, TEXTS, COUNT)?,
-        "texts_beyond" => probes(alloc, TEXTS_BEYOND, COUNT)?,
+        "add" => stores::adds(alloc)?,
+        "store" => stores::probes(alloc, BAND, COUNT)?,
+        "beyond" => stores::probes(alloc, BEYOND, 4)?,
+        "texts" => stores::probes(alloc, TEXTS, COUNT)?,
+        "texts_beyond" => stores::probes(alloc, TEXTS_BEYOND, COUNT)?,
         "inbox1" => exchange(rt, alloc, 1, 7_200_000)?,
         "inbox8" => exchange(rt, alloc, 8, 900_000)?,
         "inbox72" => exchange(rt, alloc, 72, 100_000)?,

@@ -5,7 +5,7 @@ ghost use Rattle.std.specs.Prelude.{◌≤◌, ◌^◌};
 use grid_map::Weights;
 use join_rows::make_table;
 use link_trace::{Input, Setting, replay};
-use row_cells::{Side, Table};
+use row_cells::{Bytes, Side, Table};
 use row_tickets::{Feed, tickets};
 use std::alloc::{AllocError, Global};
 use std::sync::Wait;
@@ -17,9 +17,38 @@ fn same_number(alloc: Global, table_r: &Table, table_s: &Table) -> Result<Theta,
     let Ok(pred) = parse(alloc, "r.id = s.id") else {
         return Err(AllocError);
     };
-    match resolve(alloc, &pred, &table_r.names, &table_s.names) {
+    let theta = resolve(alloc, &pred, &table_r.names, &table_s.names);
+    drop(pred);
+    match theta {
         Ok(theta) => Ok(theta),
-        Err(_) => Err(AllocError),
+        Err(fault) => {
+            drop(fault);
+            Err(AllocError)
+        }
+    }
+}
+
+// The tickets of so many rows of each side.
+fn drawn(alloc: Global, count: u64) -> Result<(Bytes, Bytes), AllocError>
+    requires few { count ≤ 2 ^ 16 }
+{
+    let tickets_r = tickets(alloc, 1, Side::R, count)?;
+    let tickets_s = tickets(alloc, 1, Side::S, count)?;
+    Ok((tickets_r, tickets_s))
+}
+
+// A made table of S with so many rows, and the predicate by which it is joined.
+fn made_beside(alloc: Global, table_r: &Table, count: u64) -> Result<(Table, Theta), AllocError>
+    requires some { 1 ≤ count }
+    requires few { count ≤ 2 ^ 16 }
+{
+    let table_s = make_table(alloc, Side::S, count)?;
+    match same_number(alloc, table_r, &table_s) {
+        Ok(theta) => Ok((table_s, theta)),
+        Err(refused) => {
+            drop(table_s);
+            Err(refused)
+        }
     }
 }
 
@@ -28,18 +57,21 @@ fn made(alloc: Global, count: u64) -> Result<Input, AllocError>
     requires some { 1 ≤ count }
     requires few { count ≤ 2 ^ 16 }
 {
-    let tickets_r = tickets(alloc, 1, Side::R, count)?;
-    let tickets_s = tickets(alloc, 1, Side::S, count)?;
+    let (tickets_r, tickets_s) = drawn(alloc, count)?;
     let table_r = make_table(alloc, Side::R, count)?;
-    let table_s = make_table(alloc, Side::S, count)?;
-    let theta = same_number(alloc, &table_r, &table_s)?;
-    Ok(Input {
-        table_r,
-        table_s,
-        theta,
-        tickets_r,
-        tickets_s,
-    })
+    match made_beside(alloc, &table_r, count) {
+        Ok((table_s, theta)) => Ok(Input {
+            table_r,
+            table_s,
+            theta,
+            tickets_r,
+            tickets_s,
+        }),
+        Err(refused) => {
+            drop(table_r);
+            Err(refused)
+        }
+    }
 }
 
 // How many events the replay of number 0 has.
@@ -77,5 +109,7 @@ pub fn events<R: Wait>(
         fixed: None,
         weights: Weights { r: 1, s: 1 },
     };
-    events_of(rt, alloc, &input, &setting)
+    let events = events_of(rt, alloc, &input, &setting);
+    drop(input);
+    events
 }

@@ -6,7 +6,6 @@ use crate::shown::push_bytes;
 use crate::source::{Source, last_source, source_of};
 use join_plan::{InputFault, LimitFault};
 use join_words::Options;
-use row_cells::Bytes;
 use std::alloc::{AllocError, Global};
 
 /// The record at this place of a file, where it is kept.
@@ -40,92 +39,177 @@ fn push_fields(explained: &mut String, found: &Option<Found>) -> Result<(), Allo
     Ok(())
 }
 
-fn no_header(alloc: Global, source: Source<'_>) -> Result<String, AllocError> {
+/// Appends a field of a record, its column counted from 1, behind what stands between, where there is one.
+fn push_field(
+    explained: &mut String,
+    between: &str,
+    found: &Option<Found>,
+    column: u64,
+) -> Result<(), AllocError> {
+    let Some(found) = found else {
+        return Ok(());
+    };
+    let Some(field) = found.fields.get(column.saturating_sub(1) as usize) else {
+        return Ok(());
+    };
+    explained.push_str(between)?;
+    push_bytes(explained, field)
+}
+
+fn push_no_header(explained: &mut String, source: Source<'_>) -> Result<(), AllocError> {
     let Source { label, name, .. } = source;
-    format!(in alloc;
+    write!(
+        explained,
         "{label}, {name}, has no header: nothing stands in it but line ends, if any\n"
     )
 }
 
-/// What is wrong with a header that isn't the first of its side.
-fn other_header(
-    alloc: Global,
+/// Appends what is wrong with a header that isn't the first of its side.
+fn push_other_header(
+    explained: &mut String,
     source: Source<'_>,
     first: Source<'_>,
-) -> Result<String, AllocError> {
+    record: &Option<Found>,
+    wanted: &Option<Found>,
+) -> Result<(), AllocError> {
     let Source { label, name, .. } = source;
-    let wanted = record_of(alloc, first, 0)?;
-    let found = record_of(alloc, source, 0)?;
     let first_label = first.label;
     let first_name = first.name;
-    let mut explained = format!(in alloc;
+    write!(
+        explained,
         "{label}, {name}, has another header than {first_label}, {first_name}; wanted are the fields:\n"
     )?;
-    push_fields(&mut explained, &wanted)?;
+    push_fields(explained, wanted)?;
     explained.push_str("and it has:\n")?;
-    push_fields(&mut explained, &found)?;
-    Ok(explained)
+    push_fields(explained, record)
 }
 
-fn width(alloc: Global, source: Source<'_>, row: u64, fields: u64) -> Result<String, AllocError> {
+/// Appends what is wrong with a row of so many fields.
+fn push_width(
+    explained: &mut String,
+    source: Source<'_>,
+    row: u64,
+    fields: u64,
+    record: &Option<Found>,
+    header: &Option<Found>,
+) -> Result<(), AllocError> {
     let Source { label, name, .. } = source;
-    let found = record_of(alloc, source, row)?;
-    let wanted = record_of(alloc, source, 0)?.map_or(0, |header| header.fields.len());
-    let mut explained = format!(in alloc; "row {row}")?;
-    push_line(&mut explained, &found)?;
+    let wanted = match header {
+        Some(header) => header.fields.len(),
+        None => 0,
+    };
+    write!(explained, "row {row}")?;
+    push_line(explained, record)?;
     write!(
         explained,
         " of {label}, {name}, has {fields} fields, and the header has {wanted}; its fields:\n"
     )?;
-    push_fields(&mut explained, &found)?;
-    Ok(explained)
+    push_fields(explained, record)
 }
 
-/// The name of a column, counted from 1, in a file's header.
-fn column_name(
-    alloc: Global,
+/// Appends what is wrong with a cell of a row, its column counted from 1, that has no number.
+fn push_number(
+    explained: &mut String,
     source: Source<'_>,
     column: u64,
-) -> Result<Option<Bytes>, AllocError> {
-    let Some(header) = record_of(alloc, source, 0)? else {
-        return Ok(None);
-    };
-    match header.fields.get(column.saturating_sub(1) as usize) {
-        Some(name) => Ok(Some(Bytes::from_slice(alloc, name)?)),
-        None => Ok(None),
-    }
-}
-
-fn number(alloc: Global, source: Source<'_>, column: u64, row: u64) -> Result<String, AllocError> {
+    row: u64,
+    record: &Option<Found>,
+    header: &Option<Found>,
+) -> Result<(), AllocError> {
     let Source { label, name, .. } = source;
-    let found = record_of(alloc, source, row)?;
-    let mut explained = format!(in alloc; "row {row}")?;
-    push_line(&mut explained, &found)?;
+    write!(explained, "row {row}")?;
+    push_line(explained, record)?;
     write!(
         explained,
         " of {label}, {name}, has no whole number in column {column}"
     )?;
-    if let Some(column_name) = column_name(alloc, source, column)? {
-        explained.push_str(", ")?;
-        push_bytes(&mut explained, column_name.as_slice())?;
-    }
-    push_cell(&mut explained, &found, column)?;
+    push_field(explained, ", ", header, column)?;
+    push_field(explained, ": ", record, column)?;
     explained.push_str(
         "\na bare column is a number; text(..) around its name compares it as a text\n",
-    )?;
-    Ok(explained)
+    )
 }
 
-/// Appends what stands in a cell, its column counted from 1.
-fn push_cell(explained: &mut String, found: &Option<Found>, column: u64) -> Result<(), AllocError> {
-    let Some(found) = found else {
-        return Ok(());
+/// The record of a file that a fault is about, and the header that it is held against, each where it is kept.
+fn records_of(
+    alloc: Global,
+    options: &Options<'_>,
+    files: &[KeptFile],
+    fault: InputFault,
+) -> Result<(Option<Found>, Option<Found>), AllocError> {
+    let (side, wave, row, first) = match fault {
+        InputFault::NoHeader { .. } => return Ok((None, None)),
+        InputFault::Header { side, wave } => (side, wave, 0, 1),
+        InputFault::Width {
+            side,
+            wave,
+            row,
+            ..
+        } => (side, wave, row, wave),
+        InputFault::Number {
+            side,
+            wave,
+            row,
+            ..
+        } => (side, wave, row, wave),
     };
-    let Some(cell) = found.fields.get(column.saturating_sub(1) as usize) else {
-        return Ok(());
-    };
-    explained.push_str(": ")?;
-    push_bytes(explained, cell)
+    let header = record_of(alloc, source_of(options, files, side, first), 0)?;
+    match record_of(alloc, source_of(options, files, side, wave), row) {
+        Ok(record) => Ok((record, header)),
+        Err(refused) => {
+            drop(header);
+            Err(refused)
+        }
+    }
+}
+
+/// Appends what is wrong with a file of this fault.
+fn push_input(
+    explained: &mut String,
+    options: &Options<'_>,
+    files: &[KeptFile],
+    fault: InputFault,
+    record: &Option<Found>,
+    header: &Option<Found>,
+) -> Result<(), AllocError> {
+    match fault {
+        InputFault::NoHeader { side, wave } => {
+            push_no_header(explained, source_of(options, files, side, wave))
+        }
+        InputFault::Header { side, wave } => push_other_header(
+            explained,
+            source_of(options, files, side, wave),
+            source_of(options, files, side, 1),
+            record,
+            header,
+        ),
+        InputFault::Width {
+            side,
+            wave,
+            row,
+            found,
+        } => push_width(
+            explained,
+            source_of(options, files, side, wave),
+            row,
+            found,
+            record,
+            header,
+        ),
+        InputFault::Number {
+            side,
+            wave,
+            column,
+            row,
+        } => push_number(
+            explained,
+            source_of(options, files, side, wave),
+            column,
+            row,
+            record,
+            header,
+        ),
+    }
 }
 
 /// What is wrong with a file of this fault.
@@ -135,27 +219,17 @@ pub(crate) fn explain_input(
     files: &[KeptFile],
     fault: InputFault,
 ) -> Result<String, AllocError> {
-    match fault {
-        InputFault::NoHeader { side, wave } => {
-            no_header(alloc, source_of(options, files, side, wave))
+    let (record, header) = records_of(alloc, options, files, fault)?;
+    let mut explained = String::new(alloc);
+    let pushed = push_input(&mut explained, options, files, fault, &record, &header);
+    drop(record);
+    drop(header);
+    match pushed {
+        Ok(()) => Ok(explained),
+        Err(refused) => {
+            drop(explained);
+            Err(refused)
         }
-        InputFault::Header { side, wave } => other_header(
-            alloc,
-            source_of(options, files, side, wave),
-            source_of(options, files, side, 1),
-        ),
-        InputFault::Width {
-            side,
-            wave,
-            row,
-            found,
-        } => width(alloc, source_of(options, files, side, wave), row, found),
-        InputFault::Number {
-            side,
-            wave,
-            column,
-            row,
-        } => number(alloc, source_of(options, files, side, wave), column, row),
     }
 }
 

@@ -61,6 +61,25 @@ fn reads<'a>(reader: &mut Reader<&'a [u8]>, fields: &mut ByteRecord) -> Result<b
     }
 }
 
+/// The byte at which the record at `place` begins for the reader, and its fields; none where there are not so many.
+fn reads_up_to<'a>(
+    reader: &mut Reader<&'a [u8]>,
+    fields: &mut ByteRecord,
+    place: u64,
+) -> Result<Option<u64>, AllocError> {
+    for _ in 0..place {
+        if !reads(reader, fields)? {
+            return Ok(None);
+        }
+    }
+    let begins = reader.position().byte();
+    Ok(if reads(reader, fields)? {
+        Some(begins)
+    } else {
+        None
+    })
+}
+
 /// The record at `place` of a file, counted from 0, so that the header is at 0 and row 1 at 1; none where there are
 /// not so many.
 pub(crate) fn record_at(
@@ -71,15 +90,20 @@ pub(crate) fn record_at(
     let text = after_marks(bytes);
     let mut reader = reader_over(alloc, text);
     let mut fields = ByteRecord::new(alloc);
-    for _ in 0..place {
-        if !reads(&mut reader, &mut fields)? {
-            return Ok(None);
+    let begins = reads_up_to(&mut reader, &mut fields, place);
+    drop(reader);
+    match begins {
+        Ok(Some(begins)) => {
+            let line = line_of(text, after_line_ends(text, begins as usize));
+            Ok(Some(Found { line, fields }))
+        }
+        Ok(None) => {
+            drop(fields);
+            Ok(None)
+        }
+        Err(refused) => {
+            drop(fields);
+            Err(refused)
         }
     }
-    let begins = reader.position().byte() as usize;
-    if !reads(&mut reader, &mut fields)? {
-        return Ok(None);
-    }
-    let line = line_of(text, after_line_ends(text, begins));
-    Ok(Some(Found { line, fields }))
 }

@@ -56,7 +56,9 @@ fn explain_words_of<R: Threads, H: Shelf + Keeps, F: Files, K: Sink>(
     let verdict = judge(rt, alloc, words, shelf);
     let cause = cause(&verdict, shelf, files);
     let explained = explain(alloc, words, &verdict, shelf.files(), cause);
-    tell(&verdict, explained, sink)
+    let status = tell(&verdict, explained, sink);
+    drop(verdict);
+    status
 }
 
 /// The program `jm-why`: puts on `sink` why `jm` would refuse these words and the files that they name, or what it
