@@ -55,14 +55,16 @@ fn told<R: Threads, H: Shelf + Keeps>(
     requires { H.Shelf.faults shelf.old < last_fault }
 {
     let verdict = judge(rt, alloc, words, shelf);
-    let text = explain(
+    let explained = explain(
         alloc,
         words,
         &verdict,
         shelf.files(),
         "there is no file of this name",
-    )?;
-    Ok((verdict.status(), text))
+    );
+    let status = verdict.status();
+    drop(verdict);
+    Ok((status, explained?))
 }
 
 // The words of this line have this status and this explanation over these files.
@@ -75,7 +77,10 @@ fn tells<R: Abort + Threads>(
 ) -> Result<(), AllocError> {
     let words = words(alloc, line)?;
     let mut shelf = KeptShelf::new(alloc, shelf_of(alloc, files)?);
-    let (status, text) = told(rt, alloc, &words, &mut shelf)?;
+    let told = told(rt, alloc, &words, &mut shelf);
+    drop(shelf);
+    drop(words);
+    let (status, text) = told?;
     assert!(rt; text.as_str() == wanted.1, "{line}");
     assert!(rt; status == wanted.0, "{line}");
     Ok(())

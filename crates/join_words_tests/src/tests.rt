@@ -1,8 +1,9 @@
+mod refused;
 mod together;
 mod waves;
 
 use grid_map::Weights;
-use join_words::{Chain, Grid, Kind, Options, Wave, WordsError, WordsFault, read_words};
+use join_words::{Chain, Grid, Kind, Options, Wave, WordsError, read_words};
 use row_tickets::Feed;
 use std::alloc::{AllocError, Global};
 use std::test::Fail;
@@ -241,78 +242,6 @@ fn reads_what_the_words_ask_for(rt: HostRuntime) -> Result<(), Fail> {
     ];
     for (line, wanted) in cases {
         assert!(rt; reads(rt.alloc(), line, wanted)?, "{line}");
-    }
-    Ok(())
-}
-
-#[test]
-fn tells_the_first_fault(rt: HostRuntime) -> Result<(), Fail> {
-    let cases = [
-        ("", WordsFault::NoMatch),
-        ("jm", WordsFault::NoMatch),
-        ("jm|--help", WordsFault::NoMatch),
-        ("jm|-h", WordsFault::NoMatch),
-        ("jm|--version", WordsFault::NoMatch),
-        ("jm|-V", WordsFault::NoMatch),
-        ("jm|--on|p|r|s|--help", WordsFault::NoMatch),
-        ("jm|r|s", WordsFault::NoMatch),
-        ("jm|r|s|--on", WordsFault::NoMatch),
-        ("jm|--on|-r.x = s.y|r|s", WordsFault::NoMatch),
-        ("jm|--on|p|--on|p|r|s", WordsFault::NoMatch),
-        ("jm|--on|p|--workers|0|r|s", WordsFault::NoMatch),
-        ("jm|--on|p|--workers|17|r|s", WordsFault::NoMatch),
-        ("jm|--on|p|--repor|r|s", WordsFault::NoMatch),
-        ("jm|--on|p|--report=true|r|s", WordsFault::NoMatch),
-        ("jm|--on|p|--report|--report|r|s", WordsFault::NoMatch),
-        ("jm|--on|p|-x|r|s", WordsFault::NoMatch),
-        ("jm|--on|p|--joiners|0|r|s", WordsFault::NoMatch),
-        ("jm|--on|p|--joiners|65|r|s", WordsFault::NoMatch),
-        ("jm|--on|p|--joiners|four|r|s", WordsFault::NoMatch),
-        ("jm|--on|p|--joiners||r|s", WordsFault::NoMatch),
-        ("jm|--on|p|--feeders|0|r|s", WordsFault::NoMatch),
-        ("jm|--on|p|--feeders|9|r|s", WordsFault::NoMatch),
-        ("jm|--on|p|--batch|0|r|s", WordsFault::NoMatch),
-        ("jm|--on|p|--batch|4097|r|s", WordsFault::NoMatch),
-        ("jm|--on|p|--feed|RFirst|r|s", WordsFault::NoMatch),
-        ("jm|--on|p|--feed||r|s", WordsFault::NoMatch),
-        ("jm|--on|p|--replay|-1|r|s", WordsFault::NoMatch),
-        ("jm|--on|p|--weight-r|0|r|s", WordsFault::NoMatch),
-        ("jm|--on|p|--weight-r|1025|r|s", WordsFault::NoMatch),
-        ("jm|--on|p|--weight-s|0|r|s", WordsFault::NoMatch),
-        ("jm|--on|p|--weight-s|1025|r|s", WordsFault::NoMatch),
-        ("jm|--on|p|--weight-s|1.5|r|s", WordsFault::NoMatch),
-        (
-            "jm|--on|p|--weight-r|4|--weight-r|4|r|s",
-            WordsFault::NoMatch,
-        ),
-        ("jm|--on|p|r|s|--weight-r", WordsFault::NoMatch),
-        ("jm|--on|p|--weight|4|r|s", WordsFault::NoMatch),
-        (
-            "jm|--on|p|--joiners|3|--weight-s|0|r|s",
-            WordsFault::NoMatch,
-        ),
-        ("jm|--on|p|--joiners|3|--feed|both|r", WordsFault::NoMatch),
-        ("jm|--on|p|--fixed|7|r|s", WordsFault::NoMatch),
-        ("jm|--on|p|--fixed|-1|r|s", WordsFault::NoMatch),
-        (
-            "jm|--on|p|--seed|18446744073709551616|r|s",
-            WordsFault::NoMatch,
-        ),
-        ("jm|--on|p|--joiners|3|--fixed|7|r", WordsFault::NoMatch),
-        ("jm|--on|p|--joiners|3|r|s", WordsFault::Joiners),
-        ("jm|--on|p|--joiners|63|r|s", WordsFault::Joiners),
-        ("jm|--on|p|--joiners|3|--fixed|6|r", WordsFault::Joiners),
-        ("jm|--on|p|--joiners|4|--fixed|3|r|s", WordsFault::Fixed),
-        ("jm|--on|p|--joiners|1|--fixed|1|r|s", WordsFault::Fixed),
-        ("jm|--on|p|--fixed|3|r", WordsFault::Fixed),
-        ("jm|--on|p", WordsFault::Files),
-        ("jm|--on|p|r", WordsFault::Files),
-        ("jm|--on|p|r|s|t", WordsFault::Files),
-        ("jm|--on|p|r|s|--|--report", WordsFault::Files),
-    ];
-    for (line, fault) in cases {
-        let wanted = Some(WordsError::Fault(fault));
-        assert!(rt; refusal(rt.alloc(), line)? == wanted, "{line}");
     }
     Ok(())
 }

@@ -27,8 +27,12 @@ fn give(
     assert!(rt; !joiner.is_spent());
     assert!(rt; joiner.hears(from));
     assert!(rt; joiner.fits(&m));
-    joiner.on(from, m, &mut sends)?;
-    sent(alloc, &sends)
+    let given = match joiner.on(from, m, &mut sends) {
+        Ok(()) => sent(alloc, &sends),
+        Err(refused) => Err(refused),
+    };
+    drop(sends);
+    given
 }
 
 fn step(
@@ -83,9 +87,14 @@ fn resolved(alloc: Global, text: &str, names: &Names) -> Result<Theta, AllocErro
     let Ok(pred) = parse(alloc, text) else {
         return Err(AllocError);
     };
-    match resolve(alloc, &pred, names, names) {
+    let resolved = resolve(alloc, &pred, names, names);
+    drop(pred);
+    match resolved {
         Ok(theta) => Ok(theta),
-        Err(_) => Err(AllocError),
+        Err(fault) => {
+            drop(fault);
+            Err(AllocError)
+        }
     }
 }
 
@@ -96,9 +105,11 @@ fn theta(rt: &impl Abort, alloc: Global, text: &str) -> Result<Theta, AllocError
 {
     let mut names = Names::new(alloc);
     names.push(Bytes::from_slice(alloc, b"x")?)?;
-    let theta = resolved(alloc, text, &names)?;
-    assert_eq!(rt; theta.width_r(), 1);
-    assert_eq!(rt; theta.width_s(), 1);
+    let theta = resolved(alloc, text, &names);
+    drop(names);
+    let theta = theta?;
+    assert!(rt; theta.width_r() == 1);
+    assert!(rt; theta.width_s() == 1);
     Ok(theta)
 }
 

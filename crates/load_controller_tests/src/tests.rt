@@ -12,50 +12,86 @@ use std::test::Fail;
 
 const ONE: Weights = Weights { r: 1, s: 1 };
 
-// The lines of a journal after the first: the cause, epoch, shift, the bases, and whether it moves.
-fn lines(alloc: Global, journal: &Journal) -> Result<String, AllocError> {
-    let mut text = String::new(alloc);
-    for line in journal.as_slice() {
-        match line.cause {
-            Cause::Start => text.push_str("start")?,
-            Cause::Wave => text.push_str("wave")?,
-            Cause::Count { feeder, dr, ds } => text.push_str(&format!(in alloc;
-                "count {feeder} {dr} {ds}"
-            )?)?,
-            Cause::Settle { joiner } => text.push_str(&format!(in alloc; "settle {joiner}")?)?,
-            Cause::Drain { feeder } => text.push_str(&format!(in alloc; "drain {feeder}")?)?,
-        }
-        let moves = if line.moving { " moving" } else { "" };
-        text.push_str(&format!(in alloc;
-            ": {} {} {} {}{moves};",
-            line.epoch, line.shift, line.base_r, line.base_s
-        )?)?;
+fn push_cause(text: &mut String, cause: Cause) -> Result<(), AllocError> {
+    match cause {
+        Cause::Start => text.push_str("start"),
+        Cause::Wave => text.push_str("wave"),
+        Cause::Count { feeder, dr, ds } => write!(text, "count {feeder} {dr} {ds}"),
+        Cause::Settle { joiner } => write!(text, "settle {joiner}"),
+        Cause::Drain { feeder } => write!(text, "drain {feeder}"),
     }
-    Ok(text)
+}
+
+fn push_line(text: &mut String, line: &TurnLine) -> Result<(), AllocError> {
+    push_cause(text, line.cause)?;
+    let TurnLine {
+        epoch,
+        shift,
+        base_r,
+        base_s,
+        ..
+    } = *line;
+    let moves = if line.moving { " moving" } else { "" };
+    write!(text, ": {epoch} {shift} {base_r} {base_s}{moves};")
+}
+
+// The lines of a journal: the cause, epoch, shift, the bases, and whether it moves.
+fn push_lines(text: &mut String, journal: &Journal) -> Result<(), AllocError> {
+    for line in journal.as_slice() {
+        push_line(text, line)?;
+    }
+    Ok(())
+}
+
+fn push_receiver(text: &mut String, to: Actor) -> Result<(), AllocError> {
+    match to {
+        Actor::Feeder(p) => write!(text, "{p}: "),
+        Actor::Joiner(_) => text.push_str("joiner: "),
+        Actor::Controller => text.push_str("controller: "),
+        Actor::Collector => text.push_str("collector: "),
+    }
+}
+
+fn push_message(text: &mut String, msg: &Msg) -> Result<(), AllocError> {
+    match msg {
+        Msg::Feeder(ToFeeder::Order { epoch, shift }) => write!(text, "order {epoch} {shift};"),
+        Msg::Feeder(ToFeeder::Grant) => text.push_str("grant;"),
+        Msg::Feeder(ToFeeder::Stop) => text.push_str("stop;"),
+        _ => text.push_str("other;"),
+    }
 }
 
 // What was posted.
-fn posts(alloc: Global, sends: &Sends) -> Result<String, AllocError> {
-    let mut text = String::new(alloc);
+fn push_posts(text: &mut String, sends: &Sends) -> Result<(), AllocError> {
     for post in sends.as_slice() {
-        match post.to {
-            Actor::Feeder(p) => text.push_str(&format!(in alloc; "{p}: ")?)?,
-            Actor::Joiner(_) => text.push_str("joiner: ")?,
-            Actor::Controller => text.push_str("controller: ")?,
-            Actor::Collector => text.push_str("collector: ")?,
-        }
-        match &post.msg {
-            Msg::Feeder(ToFeeder::Order { epoch, shift }) => text.push_str(&format!(in alloc;
-                "order {epoch} {shift};"
-            )?)?,
-            Msg::Feeder(ToFeeder::Grant) => text.push_str("grant;")?,
-            Msg::Feeder(ToFeeder::Stop) => text.push_str("stop;")?,
-            Msg::Joiner(_) => text.push_str("other;")?,
-            Msg::Controller(_) => text.push_str("other;")?,
-            Msg::Collector(_) => text.push_str("other;")?,
-        }
+        push_receiver(text, post.to)?;
+        push_message(text, &post.msg)?;
     }
-    Ok(text)
+    Ok(())
+}
+
+fn take_all(
+    controller: &mut Controller,
+    messages: &[(Actor, ToController)],
+    sends: &mut Sends,
+) -> Result<(), AllocError> {
+    for (from, m) in messages {
+        controller.on(*from, *m, sends)?;
+    }
+    Ok(())
+}
+
+// Appends what a controller posts and writes while it takes these messages: the posts, a bar, and its lines.
+fn push_all(
+    text: &mut String,
+    controller: &mut Controller,
+    messages: &[(Actor, ToController)],
+    sends: &mut Sends,
+) -> Result<(), AllocError> {
+    take_all(controller, messages, sends)?;
+    push_posts(text, sends)?;
+    text.push('|')?;
+    push_lines(text, controller.journal())
 }
 
 // What a controller has posted and written after these messages.
@@ -63,12 +99,19 @@ fn after(
     alloc: Global,
     mut controller: Controller,
     messages: &[(Actor, ToController)],
-) -> Result<(String, String), AllocError> {
+) -> Result<String, AllocError> {
     let mut sends = Sends::new(alloc);
-    for (from, m) in messages {
-        controller.on(*from, *m, &mut sends)?;
+    let mut text = String::new(alloc);
+    let pushed = push_all(&mut text, &mut controller, messages, &mut sends);
+    drop(controller);
+    drop(sends);
+    match pushed {
+        Ok(()) => Ok(text),
+        Err(refused) => {
+            drop(text);
+            Err(refused)
+        }
     }
-    Ok((posts(alloc, &sends)?, lines(alloc, controller.journal())?))
 }
 
 // A controller of 16 joiners that goes on at their middle shift, with 128 rows of R and 64 of S.
@@ -125,9 +168,10 @@ fn expect(
     messages: &[(Actor, ToController)],
     wanted: (&str, &str),
 ) -> Result<(), AllocError> {
-    let (posts, lines) = after(alloc, controller, messages)?;
-    assert!(rt; posts.as_str() == wanted.0, "posts");
-    assert!(rt; lines.as_str() == wanted.1, "lines");
+    let told = after(alloc, controller, messages)?;
+    let (posts, lines) = wanted;
+    let wanted = format!(in alloc; "{posts}|{lines}")?;
+    assert!(rt; told == wanted, "{told}");
     Ok(())
 }
 

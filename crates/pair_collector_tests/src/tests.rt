@@ -1,5 +1,5 @@
 use epoch_tags::{Actor, Counts, Pair, Pairs, ToCollector};
-use pair_collector::{Collected, Collector, in_order};
+use pair_collector::{Collected, Collector, Loads, in_order};
 use std::alloc::{AllocError, Global};
 use std::process::Abort;
 use std::test::Fail;
@@ -53,6 +53,22 @@ fn take_all(
     Ok(())
 }
 
+fn given(pairs: &Pairs, wanted: &[(u32, u32)]) -> bool {
+    pairs
+        .as_slice()
+        .iter()
+        .map(|pair| (pair.i, pair.j))
+        .eq(wanted.iter().copied())
+}
+
+fn held(loads: &Loads, wanted: &[(u64, u64)]) -> bool {
+    loads
+        .as_slice()
+        .iter()
+        .map(|held| (held.rows_r, held.rows_s))
+        .eq(wanted.iter().copied())
+}
+
 // The answer has these pairs, and so on.
 fn expect(
     rt: &impl Abort,
@@ -62,16 +78,10 @@ fn expect(
     moved: &[u64],
     loads: &[(u64, u64)],
 ) {
-    assert_eq!(rt; collected.pairs.as_slice().len(), pairs.len());
-    for (pair, wanted) in collected.pairs.as_slice().iter().zip(pairs) {
-        assert_eq!(rt; (pair.i, pair.j), *wanted);
-    }
+    assert!(rt; given(&collected.pairs, pairs));
     assert!(rt; collected.made.as_slice() == made);
     assert!(rt; collected.moved.as_slice() == moved);
-    assert_eq!(rt; collected.loads.as_slice().len(), loads.len());
-    for (held, wanted) in collected.loads.as_slice().iter().zip(loads) {
-        assert_eq!(rt; (held.rows_r, held.rows_s), *wanted);
-    }
+    assert!(rt; held(&collected.loads, loads));
 }
 
 #[test]
@@ -129,27 +139,41 @@ fn collects_of_three_joiners(rt: HostRuntime) -> Result<(), Fail> {
     Ok(())
 }
 
-fn given(pairs: &Pairs, wanted: &[(u32, u32)]) -> bool {
-    pairs
-        .as_slice()
-        .iter()
-        .map(|pair| (pair.i, pair.j))
-        .eq(wanted.iter().copied())
+// A joiner has found these pairs.
+fn finds(
+    alloc: Global,
+    collector: &mut Collector,
+    joiner: u32,
+    pairs: &[(u32, u32)],
+) -> Result<(), AllocError> {
+    collector.on(Actor::Joiner(joiner), found(alloc, pairs)?)
+}
+
+// Whether these are the pairs that it gives now.
+fn gives(collector: &mut Collector, wanted: &[(u32, u32)]) -> Result<bool, AllocError> {
+    let fresh = collector.fresh()?;
+    let same = given(&fresh, wanted);
+    drop(fresh);
+    Ok(same)
+}
+
+// Whether it gives each pair once.
+fn gives_once(alloc: Global, collector: &mut Collector) -> Result<(bool, bool, bool), AllocError> {
+    finds(alloc, collector, 0, &[(1, 0)])?;
+    finds(alloc, collector, 1, &[(0, 2)])?;
+    let first = gives(collector, &[(0, 2), (1, 0)])?;
+    let second = gives(collector, &[])?;
+    finds(alloc, collector, 1, &[(0, 2)])?;
+    Ok((first, second, gives(collector, &[(0, 2)])?))
 }
 
 #[test]
 fn fresh_pairs_are_given_once(rt: HostRuntime) -> Result<(), Fail> {
     let alloc = rt.alloc();
     let mut collector = Collector::start(alloc, 2)?;
-    collector.on(Actor::Joiner(0), found(alloc, &[(1, 0)])?)?;
-    collector.on(Actor::Joiner(1), found(alloc, &[(0, 2)])?)?;
-    let first = collector.fresh()?;
-    let second = collector.fresh()?;
-    collector.on(Actor::Joiner(1), found(alloc, &[(0, 2)])?)?;
-    let third = collector.fresh()?;
-    assert!(rt; given(&first, &[(0, 2), (1, 0)]));
-    assert!(rt; given(&second, &[]));
-    assert!(rt; given(&third, &[(0, 2)]));
+    let gave = gives_once(alloc, &mut collector);
+    drop(collector);
+    assert!(rt; gave? == (true, true, true));
     Ok(())
 }
 

@@ -1,4 +1,5 @@
 use report_picture::{ReportError, picture, read_report};
+use std::alloc::{AllocError, Global};
 use std::test::Fail;
 
 // Two joiners that go from one column to two.
@@ -26,22 +27,19 @@ fn a_report_is_drawn(rt: HostRuntime) -> Result<(), Fail> {
     Ok(())
 }
 
-// A grid that grows where it never changed: from one joiner, and from 64 to as many rows as a grid has at most.
-#[test]
-fn a_grid_grows_before_it_changes(rt: HostRuntime) -> Result<(), Fail> {
-    let alloc = rt.alloc();
-    let lines =
-        "input 2 2\ngrow 2 2 placed 8\nfinal 2 2 copies 8 best 8\njoiner 0 held 1 1 made 1\njoiner 1 held 1 1 made 1\njoiner 2 held 1 1 made 1\njoiner 3 held 1 1 made 1\n";
+// Whether a report is drawn with both of these.
+fn is_drawn_with(alloc: Global, lines: &str, first: &str, grown: &str) -> Result<bool, Fail> {
     let report = read_report(alloc, lines.as_bytes())?;
-    let text = picture(alloc, &report)?;
-    assert!(rt;
-        text.as_str()
-            .contains("first grid</text><text x='64' y='148'>1 &#215; 1<")
-    );
-    assert!(rt;
-        text.as_str()
-            .contains("grown to</text><text x='64' y='148'>2 &#215; 2<")
-    );
+    let drawn = picture(alloc, &report);
+    drop(report);
+    let text = drawn?;
+    let found = text.as_str().contains(first) && text.as_str().contains(grown);
+    drop(text);
+    Ok(found)
+}
+
+// The report of 256 joiners that hold nothing, in as many rows as a grid has at most.
+fn of_256_joiners(alloc: Global) -> Result<String, AllocError> {
     let mut lines = String::from_str(
         alloc,
         "input 9 0\ngrow 256 1 placed 9\nfinal 256 1 copies 9 best 9\n",
@@ -49,16 +47,22 @@ fn a_grid_grows_before_it_changes(rt: HostRuntime) -> Result<(), Fail> {
     for id in 0..256 {
         write!(lines, "joiner {id} held 0 0 made 0\n")?;
     }
-    let report = read_report(alloc, lines.as_bytes())?;
-    let text = picture(alloc, &report)?;
-    assert!(rt;
-        text.as_str()
-            .contains("first grid</text><text x='64' y='148'>8 &#215; 8<")
-    );
-    assert!(rt;
-        text.as_str()
-            .contains("grown to</text><text x='64' y='148'>256 &#215; 1<")
-    );
+    Ok(lines)
+}
+
+// A grid that grows where it never changed: from one joiner, and from 64 to as many rows as a grid has at most.
+#[test]
+fn a_grid_grows_before_it_changes(rt: HostRuntime) -> Result<(), Fail> {
+    let alloc = rt.alloc();
+    let four =
+        "input 2 2\ngrow 2 2 placed 8\nfinal 2 2 copies 8 best 8\njoiner 0 held 1 1 made 1\njoiner 1 held 1 1 made 1\njoiner 2 held 1 1 made 1\njoiner 3 held 1 1 made 1\n";
+    let first = "first grid</text><text x='64' y='148'>1 &#215; 1<";
+    let grown = "grown to</text><text x='64' y='148'>2 &#215; 2<";
+    assert!(rt; is_drawn_with(alloc, four, first, grown)?);
+    let many = of_256_joiners(alloc)?;
+    let first = "first grid</text><text x='64' y='148'>8 &#215; 8<";
+    let grown = "grown to</text><text x='64' y='148'>256 &#215; 1<";
+    assert!(rt; is_drawn_with(alloc, many.as_str(), first, grown)?);
     Ok(())
 }
 

@@ -108,21 +108,26 @@ fn asks_of_one_thread_reach_another_in_order(rt: HostRuntime) -> Result<(), Fail
     Ok(())
 }
 
+// The number of the next message, and how many more are known then.
+fn next<R: Wait>(inn: &mut In, rt: &R) -> (Option<u32>, u64)
+    ensures { IsSameIn inn.old inn.new }
+{
+    let number = inn.take(rt).map(number_of);
+    (number, inn.known())
+}
+
 #[test]
 fn three_messages_by_hand(rt: HostRuntime) -> Result<(), Fail> {
     let (out, mut inn) = link(rt.alloc(), Actor::Feeder(0), Actor::Controller)?;
-    assert!(rt; inn.take(&rt).is_none());
+    assert!(rt; next(&mut inn, &rt) == (None, 0));
     let (mut out, all_put) = put_all(&rt, out, 3);
     assert!(rt; all_put);
-    assert_eq!(rt; inn.known(), 0);
-    assert_eq!(rt; inn.take(&rt).map(number_of), Some(0));
-    assert_eq!(rt; inn.known(), 0);
-    assert_eq!(rt; gather(&mut out, &mut inn, &rt), 2);
-    assert_eq!(rt; inn.known(), 2);
-    assert_eq!(rt; inn.take(&rt).map(number_of), Some(1));
-    assert_eq!(rt; inn.known(), 1);
-    assert_eq!(rt; inn.take(&rt).map(number_of), Some(2));
-    assert!(rt; inn.take(&rt).is_none());
-    assert_eq!(rt; gather(&mut out, &mut inn, &rt), 0);
+    assert!(rt; next(&mut inn, &rt) == (Some(0), 0));
+    assert!(rt; gather(&mut out, &mut inn, &rt) == 2);
+    assert!(rt; inn.known() == 2);
+    assert!(rt; next(&mut inn, &rt) == (Some(1), 1));
+    assert!(rt; next(&mut inn, &rt) == (Some(2), 0));
+    assert!(rt; next(&mut inn, &rt) == (None, 0));
+    assert!(rt; gather(&mut out, &mut inn, &rt) == 0);
     Ok(())
 }

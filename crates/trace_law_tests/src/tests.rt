@@ -72,20 +72,72 @@ fn table(alloc: Global, text: &str) -> Result<Table, AllocError> {
     }
 }
 
+// Columns of these names, with a blank between two.
+fn header(alloc: Global, words: &str) -> Result<Names, AllocError> {
+    let mut names = Names::new(alloc);
+    for word in words.split(' ') {
+        names.push(Bytes::from_slice(alloc, word.as_bytes())?)?;
+    }
+    Ok(names)
+}
+
 // A predicate over one column of R and two of S.
 fn theta(alloc: Global) -> Result<Theta, AllocError> {
-    let mut names_r = Names::new(alloc);
-    names_r.push(Bytes::from_slice(alloc, b"a")?)?;
-    let mut names_s = Names::new(alloc);
-    names_s.push(Bytes::from_slice(alloc, b"a")?)?;
-    names_s.push(Bytes::from_slice(alloc, b"b")?)?;
+    let names_r = header(alloc, "a")?;
+    let names_s = header(alloc, "a b")?;
     let Ok(pred) = parse(alloc, "r.a = s.a") else {
         return Err(AllocError);
     };
-    match resolve(alloc, &pred, &names_r, &names_s) {
+    let resolved = resolve(alloc, &pred, &names_r, &names_s);
+    drop(pred);
+    drop(names_r);
+    drop(names_s);
+    match resolved {
         Ok(theta) => Ok(theta),
-        Err(_) => Err(AllocError),
+        Err(fault) => {
+            drop(fault);
+            Err(AllocError)
+        }
     }
+}
+
+// The table of a file of S, and the predicate.
+fn side_s(alloc: Global, file: &str) -> Result<(Table, Theta), AllocError> {
+    let table = table(alloc, file)?;
+    match theta(alloc) {
+        Ok(theta) => Ok((table, theta)),
+        Err(refused) => {
+            drop(table);
+            Err(refused)
+        }
+    }
+}
+
+// The input of two files, with these tickets for R and none for S.
+fn input(alloc: Global, file_r: &str, file_s: &str, tickets: &[u8]) -> Result<Input, AllocError> {
+    let tickets_r = Bytes::from_slice(alloc, tickets)?;
+    let table_r = table(alloc, file_r)?;
+    match side_s(alloc, file_s) {
+        Ok((table_s, theta)) => Ok(Input {
+            table_r,
+            table_s,
+            theta,
+            tickets_r,
+            tickets_s: Bytes::new(alloc),
+        }),
+        Err(refused) => {
+            drop(table_r);
+            Err(refused)
+        }
+    }
+}
+
+// Whether such an input is valid.
+fn is_valid(alloc: Global, file_r: &str, file_s: &str, tickets: &[u8]) -> Result<bool, AllocError> {
+    let input = input(alloc, file_r, file_s, tickets)?;
+    let valid = input.valid();
+    drop(input);
+    Ok(valid)
 }
 
 #[test]
@@ -97,14 +149,8 @@ fn inputs_with_tickets_and_widths(rt: HostRuntime) -> Result<(), Fail> {
         ("a\n1\n2\n", "a\n", [3, 255].as_slice(), false),
     ];
     for (file_r, file_s, tickets, wanted) in cases {
-        let input = Input {
-            table_r: table(rt.alloc(), file_r)?,
-            table_s: table(rt.alloc(), file_s)?,
-            theta: theta(rt.alloc())?,
-            tickets_r: Bytes::from_slice(rt.alloc(), tickets)?,
-            tickets_s: Bytes::new(rt.alloc()),
-        };
-        assert!(rt; input.valid() == wanted, "{file_r} and {file_s}");
+        let valid = is_valid(rt.alloc(), file_r, file_s, tickets)?;
+        assert!(rt; valid == wanted, "{file_r} and {file_s}");
     }
     Ok(())
 }

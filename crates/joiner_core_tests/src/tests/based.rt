@@ -1,6 +1,6 @@
 // A joiner that begins with a store.
 
-ghost use Rattle.std.specs.Prelude.{◌≡◌, ◌≤◌, IfOk};
+ghost use Rattle.std.specs.Prelude.{◌≡◌, ◌≤◌, [], IfOk, OnOk};
 ghost use Rattle.std.specs.List.{AllByRecursion};
 ghost use Rattle.epoch_tags.specs.declared.tuple.Tuple.{Tuple as Tuple'};
 ghost use Rattle.joiner_core.specs.State.{tuples_of, AreRows, IsKeyOf};
@@ -15,7 +15,27 @@ use std::test::Fail;
 use store_parts::Store;
 use theta_pred::Theta;
 
-// R row 0 and S row 0, both of stamp 1.
+// Adds R row 0 and S row 0, both of stamp 1, to a store without tuples.
+fn add_both(alloc: Global, store: &mut Store, theta: &Theta) -> Result<(), AllocError>
+    requires r { theta.now.width_r ≡ 1 }
+    requires s { theta.now.width_s ≡ 1 }
+    requires key { IsKeyOf theta.now store.old.key }
+    requires empty_r { store.old.r ≡ [] }
+    requires empty_s { store.old.s ≡ [] }
+    ensures key { OnOk result (IsKeyOf theta.now store.new.key) }
+    ensures stamps { OnOk result
+        (AllByRecursion (λ (x : Tuple'). x.stamp ≤ 2) (tuples_of store.new)) }
+    ensures rows { OnOk result (AreRows theta.now (tuples_of store.new)) }
+{
+    let first = row(alloc, Side::R, 0, 0, 1)?;
+    store.fits_key(theta, &first);
+    store.add(first)?;
+    let second = row(alloc, Side::S, 0, 0, 1)?;
+    store.fits_key(theta, &second);
+    store.add(second)
+}
+
+// A store with R row 0 and S row 0, both of stamp 1.
 fn base(alloc: Global, theta: &Theta) -> Result<Store, AllocError>
     requires r { theta.now.width_r ≡ 1 }
     requires s { theta.now.width_s ≡ 1 }
@@ -25,13 +45,13 @@ fn base(alloc: Global, theta: &Theta) -> Result<Store, AllocError>
     ensures rows { IfOk result (λ store. AreRows theta.now (tuples_of store)) }
 {
     let mut store = Store::new(alloc, theta.key_atom()?);
-    let first = row(alloc, Side::R, 0, 0, 1)?;
-    store.fits_key(theta, &first);
-    store.add(first)?;
-    let second = row(alloc, Side::S, 0, 0, 1)?;
-    store.fits_key(theta, &second);
-    store.add(second)?;
-    Ok(store)
+    match add_both(alloc, &mut store, theta) {
+        Ok(()) => Ok(store),
+        Err(refused) => {
+            drop(store);
+            Err(refused)
+        }
+    }
 }
 
 // A joiner with that base, at epoch 2.

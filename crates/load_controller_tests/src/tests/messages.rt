@@ -1,7 +1,7 @@
 use super::{ONE, ask, drained, expect, settled};
 use epoch_tags::{Actor, Sends, ToController};
 use load_controller::Controller;
-use std::alloc::AllocError;
+use std::alloc::{AllocError, Global};
 use std::test::Fail;
 
 fn tell(
@@ -83,40 +83,59 @@ fn strange_messages_are_passed_over(rt: HostRuntime) -> Result<(), Fail> {
 fn it_is_idle_while_no_step_is_under_way(rt: HostRuntime) -> Result<(), Fail> {
     let alloc = rt.alloc();
     let mut controller = Controller::start(alloc, 1, 1, None, ONE)?;
-    assert!(rt; controller.idle(), "at the beginning");
     let mut sends = Sends::new(alloc);
-    controller.on(
-        Actor::Feeder(0),
-        ToController::Ask { dr: 0, ds: 1 },
-        &mut sends,
-    )?;
-    assert!(rt; !controller.idle(), "in a step");
+    let before = controller.idle();
+    let told = tell(&mut controller, ask(0, 0, 1), &mut sends);
+    let behind = controller.idle();
+    drop(sends);
+    drop(controller);
+    told?;
+    assert!(rt; before, "at the beginning");
+    assert!(rt; !behind, "in a step");
     Ok(())
 }
 
+fn settle_first(controller: &mut Controller, sends: &mut Sends) -> Result<(), AllocError> {
+    for epoch in 1..9u32 {
+        tell(controller, settled(0, epoch), sends)?;
+    }
+    Ok(())
+}
+
+fn settle_rest(controller: &mut Controller, sends: &mut Sends) -> Result<(), AllocError> {
+    tell(controller, ask(0, 0, 1), sends)?;
+    settle(controller, 1, 2, sends)?;
+    tell(controller, ask(0, 64, 0), sends)?;
+    settle(controller, 3, 5, sends)?;
+    tell(controller, ask(0, 0, 4096), sends)?;
+    settle(controller, 6, 8, sends)
+}
+
 // Of eight joiners: the first has said all that it will settle before the first step, and the others
-// settle step by step. Rows of S make two steps, then rows of R three, and rows of S three more.
-#[test]
-fn eight_held_messages_are_counted_in_eight_steps(rt: HostRuntime) -> Result<(), Fail> {
-    let alloc = rt.alloc();
+// settle step by step. Rows of S make two steps, then rows of R three, and rows of S three more. The
+// answer is how many lines the controller has written, and what the last says.
+fn eight_steps(alloc: Global) -> Result<(usize, Option<(u32, u32, bool)>), AllocError> {
     let mut controller = Controller::start(alloc, 3, 1, None, ONE)?;
     let mut sends = Sends::new(alloc);
-    for epoch in 1..9u32 {
-        tell(&mut controller, settled(0, epoch), &mut sends)?;
-    }
-    for (batch, first, last) in [
-        (ask(0, 0, 1), 1, 2),
-        (ask(0, 64, 0), 3, 5),
-        (ask(0, 0, 4096), 6, 8),
-    ] {
-        tell(&mut controller, batch, &mut sends)?;
-        settle(&mut controller, first, last, &mut sends)?;
-    }
+    let settled = match settle_first(&mut controller, &mut sends) {
+        Ok(()) => settle_rest(&mut controller, &mut sends),
+        Err(refused) => Err(refused),
+    };
+    drop(sends);
     let journal = controller.journal().as_slice();
-    assert!(rt; journal.len() == 68, "lines");
+    let lines = journal.len();
     let last = journal
         .last()
         .map(|line| (line.epoch, line.shift, line.moving));
+    drop(controller);
+    settled?;
+    Ok((lines, last))
+}
+
+#[test]
+fn eight_held_messages_are_counted_in_eight_steps(rt: HostRuntime) -> Result<(), Fail> {
+    let (lines, last) = eight_steps(rt.alloc())?;
+    assert!(rt; lines == 68, "lines");
     assert!(rt; last == Some((8, 3, false)), "the last line");
     Ok(())
 }
