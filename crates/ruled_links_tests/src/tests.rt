@@ -122,6 +122,7 @@ fn three_messages_by_hand(rt: HostRuntime) -> Result<(), Fail> {
     assert!(rt; next(&mut inn, &rt) == (None, 0));
     let (mut out, all_put) = put_all(&rt, out, 3);
     assert!(rt; all_put);
+    assert!(rt; inn.known() == 0);
     assert!(rt; next(&mut inn, &rt) == (Some(0), 0));
     assert!(rt; gather(&mut out, &mut inn, &rt) == 2);
     assert!(rt; inn.known() == 2);
