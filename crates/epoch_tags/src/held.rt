@@ -1,6 +1,6 @@
 // Messages that can't be taken yet, sender by sender.
 
-ghost use Rattle.std.specs.Prelude.{◌≡◌, ◌<◌, ◌++◌, ◌∷◌, ◌^◌, ◌-◌, [], ℕ, true, false, length, min, slice_set, MatchOption, IfOk, OnOk, OnErr};
+ghost use Rattle.std.specs.Prelude.{◌≡◌, ◌<◌, ◌++◌, ◌∷◌, ◌^◌, ◌-◌, [], ℕ, true, false, length, map, min, slice_set, MatchOption, IfOk, OnOk, OnErr};
 ghost use Rattle.row_cells.specs.Lists.{total};
 ghost use Rattle.epoch_tags.specs.Held.{held_at, BeginsWith};
 
@@ -31,6 +31,24 @@ fn push_behind<T: Drop>(queue: &mut VecDeque<T>, m: T) -> Result<(), AllocError>
     Ok(())
 }
 
+// Adds so many queues with nothing in them, the first ones.
+fn add_empty<T: Drop>(
+    alloc: Global,
+    queues: &mut Vec<VecDeque<T>>,
+    count: u32,
+) -> Result<(), AllocError>
+    requires { queues.old.items ≡ [] }
+    ensures count { OnOk result (length queues.new.items ≡ count) }
+    ensures empty { OnOk result ((sender : ℕ)
+        → held_at (map (λ q. q.items) queues.new.items) sender ≡ []) }
+{
+    for i in 0..count {
+        let _ = i;
+        queues.push(VecDeque::new(alloc))?;
+    }
+    Ok(())
+}
+
 impl<T: Drop> Held<T> {
     /// Nothing, of so many senders.
     pub fn start(alloc: Global, senders: u32) -> Result<Held<T>, AllocError>
@@ -38,11 +56,13 @@ impl<T: Drop> Held<T> {
         ensures empty { IfOk result (λ held. (sender : ℕ) → held_at held sender ≡ []) }
     {
         let mut queues = Vec::new(alloc);
-        for i in 0..senders {
-            let _ = i;
-            queues.push(VecDeque::new(alloc))?;
+        match add_empty(alloc, &mut queues, senders) {
+            Ok(()) => Ok(Held { queues }),
+            Err(refused) => {
+                drop(queues);
+                Err(refused)
+            }
         }
-        Ok(Held { queues })
     }
 
     /// The first message held of a sender.
