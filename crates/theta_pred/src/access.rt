@@ -79,10 +79,16 @@ pub(crate) fn access_of(
         (record { formula = formula_of tree.now; width_r = width_r; width_s = width_s })) }
 {
     let access = all_of(alloc, tree, width_r, width_s)?;
-    if tells_more_of(alloc, tree, width_r, width_s, &access)? {
-        Ok(Some(access))
-    } else {
-        Ok(None)
+    match tells_more_of(alloc, tree, width_r, width_s, &access) {
+        Ok(true) => Ok(Some(access)),
+        Ok(false) => {
+            drop(access);
+            Ok(None)
+        }
+        Err(refused) => {
+            drop(access);
+            Err(refused)
+        }
     }
 }
 

@@ -1,6 +1,7 @@
 // A predicate over the places of columns.
 
 ghost use Rattle.std.specs.Prelude.{◌≡◌, IfOk, IsTrue, option_map, Some};
+ghost use Rattle.row_cells.specs.declared.table.Side.TheVariants.{R as R', S as S'};
 ghost use Rattle.theta_pred.specs.Accesses.{access_of, terms_of, IsAccessOf, IsOverRows, Suffices, Terms};
 ghost use Rattle.theta_pred.specs.Formula.{formula_of};
 ghost use Rattle.theta_pred.specs.Keys.{atom_of, key_of, Atom, IsKeyOf};
@@ -58,6 +59,27 @@ impl Model for Theta {
         × (theta.enough ≡ agreements_suffice (formula_of theta.tree)) };
 }
 
+// The places of both sides' columns that stand in a sum.
+fn numeric_of_both(
+    alloc: Global,
+    tree: &Tree,
+    width_r: u64,
+    width_s: u64,
+) -> Result<(Columns, Columns), AllocError>
+    requires { IsSound width_r width_s (formula_of tree.now) }
+    ensures r { IfOk result (λ places. AreNumeric (formula_of tree.now) R' width_r places.0) }
+    ensures s { IfOk result (λ places. AreNumeric (formula_of tree.now) S' width_s places.1) }
+{
+    let numeric_r = numeric_places(alloc, tree, Side::R, width_r, width_s)?;
+    match numeric_places(alloc, tree, Side::S, width_r, width_s) {
+        Ok(numeric_s) => Ok((numeric_r, numeric_s)),
+        Err(refused) => {
+            drop(numeric_r);
+            Err(refused)
+        }
+    }
+}
+
 impl Theta {
     // The predicate of a tree over headers of these widths.
     pub(crate) fn over(
@@ -70,18 +92,24 @@ impl Theta {
         ensures { IfOk result (λ theta.
             theta ≡ record { formula = formula_of tree; width_r = width_r; width_s = width_s }) }
     {
-        let numeric_r = numeric_places(alloc, &tree, Side::R, width_r, width_s)?;
-        let numeric_s = numeric_places(alloc, &tree, Side::S, width_r, width_s)?;
-        let enough = agreements_suffice(&tree);
-        Ok(Theta {
-            alloc,
-            tree,
-            width_r,
-            width_s,
-            numeric_r,
-            numeric_s,
-            enough,
-        })
+        match numeric_of_both(alloc, &tree, width_r, width_s) {
+            Ok((numeric_r, numeric_s)) => {
+                let enough = agreements_suffice(&tree);
+                Ok(Theta {
+                    alloc,
+                    tree,
+                    width_r,
+                    width_s,
+                    numeric_r,
+                    numeric_s,
+                    enough,
+                })
+            }
+            Err(refused) => {
+                drop(tree);
+                Err(refused)
+            }
+        }
     }
 
     /// An equal predicate.
