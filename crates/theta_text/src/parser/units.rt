@@ -1,6 +1,6 @@
 // Units, conjunctions and predicates.
 
-ghost use Rattle.std.specs.Prelude.{◌≡◌, ◌<◌, ◌≤◌, List, ◌∷◌, length, map, IfOk};
+ghost use Rattle.std.specs.Prelude.{◌≡◌, ◌++◌, ◌<◌, ◌≤◌, List, ◌∷◌, [], length, map, IfOk};
 ghost use Rattle.theta_tree.specs.Grammar.{any, every, joined, IsAnd, IsOr, Unit', Conj, Predicate, NumTest, BandRest, TxtTest};
 ghost use Rattle.theta_text.specs.Machine.{Symbol, unit, tail, close, open', sum, op, bound, side, verdict};
 ghost use Rattle.theta_tree.specs.Faults.{words};
@@ -24,6 +24,15 @@ enum Start {
     StartNum,
 }
 
+// Appends a member.
+fn add(members: &mut Vec<Pred>, member: Pred) -> Result<(), PredFault>
+    ensures { OnlyMemory result
+        (λ _. members.new.items ≡ members.old.items ++ member ∷ []) }
+{
+    members.push(member)?;
+    Ok(())
+}
+
 // pred = conj { "or" conj }
 #[cycle(parser)]
 pub(crate) fn predicate<'a>(
@@ -43,9 +52,21 @@ pub(crate) fn predicate<'a>(
     let (first, mut rest) = conj(alloc, tokens, end, depth)?;
     let mut others = Vec::new(alloc);
     while let Some(after) = after_or(rest) {
-        let (member, left) = conj(alloc, after, end, depth)?;
-        others.push(member)?;
-        rest = left;
+        match conj(alloc, after, end, depth) {
+            Ok((member, left)) => {
+                if let Err(fault) = add(&mut others, member) {
+                    drop(first);
+                    drop(others);
+                    return Err(fault);
+                }
+                rest = left;
+            }
+            Err(fault) => {
+                drop(first);
+                drop(others);
+                return Err(fault);
+            }
+        }
     }
     Ok((any_of(first, others)?, rest))
 }
@@ -70,9 +91,21 @@ fn conj<'a>(
     let (first, mut rest) = one_unit(alloc, tokens, end, depth)?;
     let mut others = Vec::new(alloc);
     while let Some(after) = after_and(rest) {
-        let (member, left) = one_unit(alloc, after, end, depth)?;
-        others.push(member)?;
-        rest = left;
+        match one_unit(alloc, after, end, depth) {
+            Ok((member, left)) => {
+                if let Err(fault) = add(&mut others, member) {
+                    drop(first);
+                    drop(others);
+                    return Err(fault);
+                }
+                rest = left;
+            }
+            Err(fault) => {
+                drop(first);
+                drop(others);
+                return Err(fault);
+            }
+        }
     }
     Ok((every_of(first, others)?, rest))
 }
@@ -109,8 +142,13 @@ fn one_unit<'a>(
                 return Err(PredFault::Deep { place: first.place });
             }
             let (inner, rest) = predicate(alloc, rest, end, depth - 1)?;
-            let rest = closed(rest, end)?;
-            Ok((inner, rest))
+            match closed(rest, end) {
+                Ok(rest) => Ok((inner, rest)),
+                Err(fault) => {
+                    drop(inner);
+                    Err(fault)
+                }
+            }
         }
         Start::StartBand => band_of(alloc, rest, end),
         Start::StartTxt => txt_of(tokens, end),

@@ -23,9 +23,8 @@ predicate-returns-in_err-first-clause-run t c s =
     let p = err_from_is_err_and c.from_residual.result c.from_residual.ensures.1 in
     rw (p.1, p.2) (c.in_err-first.ensures.run s)
 
-pub conj-returns-in_err-member-clause-run : goal.conj-returns-in_err-member-clause-run
-conj-returns-in_err-member-clause-run t c s =
-    let p = err_from_is_err_and c.from_residual-in_err-member.result c.from_residual-in_err-member.ensures.1 in
+pub conj-returns-in-Err-clause-run : goal.conj-returns-in-Err-clause-run
+conj-returns-in-Err-clause-run t c s =
     let l = c.loop-after in
     let it = l.invariant in
     let past = c.in-Some.ensures in
@@ -33,8 +32,8 @@ conj-returns-in_err-member-clause-run t c s =
     ≡ verdict limits c.args.end (unit c.args.depth ∷ tail c.args.depth ∷ s) c.in-Some.after.now =
     λ s. turn_ok limits c.args.end (tail c.args.depth ∷ s) (unit c.args.depth ∷ tail c.args.depth ∷ s)
     (Word And past.2.0) l.rest.now past.0 c.in-Some.after.now past.1 past.2.1 refl in
-    rw (p.1, p.2) (same_fault _ _ c.in_err-member.field-0.0 (it.run s ∙ turned s)
-    (c.in_err-member.ensures.run (tail c.args.depth ∷ s)))
+    same_fault _ _ c.in-Err.fault (it.run s ∙ turned s)
+    (c.in-Err.ensures.run (tail c.args.depth ∷ s))
 
 pub conj-loop-after-preserved : goal.conj-loop-after-preserved
 conj-loop-after-preserved t c =
@@ -45,11 +44,11 @@ conj-loop-after-preserved t c =
     ≡ verdict limits c.args.end (unit c.args.depth ∷ tail c.args.depth ∷ s) c.in-Some.after.now =
     λ s. turn_ok limits c.args.end (tail c.args.depth ∷ s) (unit c.args.depth ∷ tail c.args.depth ∷ s)
     (Word And past.2.0) l.rest.now past.0 c.in-Some.after.now past.1 past.2.1 refl in
-    let m = c.in_ok-member in
+    let m = c.in-Ok in
     let mid : words l.rest.now ≡ past.0.token ∷ words c.in-Some.after.now =
     words_at past.0.token l.rest.now past.0 c.in-Some.after.now past.1 refl in
-    let pushed : c.push.new.self.items ≡ l.others.items ++ m.member ∷ [] = search rules in
-    let seen : map tree_of c.push.new.self.items ≡ map tree_of l.others.items ++ tree_of m.member ∷ [] =
+    let pushed : c.add.new.members.items ≡ l.others.items ++ m.member ∷ [] = search rules in
+    let seen : map tree_of c.add.new.members.items ≡ map tree_of l.others.items ++ tree_of m.member ∷ [] =
     ap (map tree_of) pushed ∙ map-append tree_of l.others.items (m.member ∷ []) in
     record {
       first = it.first;
@@ -61,12 +60,11 @@ conj-loop-after-preserved t c =
       run = λ s. it.run s ∙ turned s ∙ m.ensures.run (tail c.args.depth ∷ s);
       shorter = grind (arith, past.1);
       narrow_first = it.narrow_first;
-      narrow = longest-push c.push.new.self.items l.others.items m.member (search rules) it.narrow m.ensures.narrow;
+      narrow = longest-push c.add.new.members.items l.others.items m.member (search rules) it.narrow m.ensures.narrow;
     }
 
-pub predicate-returns-in_err-member-clause-run : goal.predicate-returns-in_err-member-clause-run
-predicate-returns-in_err-member-clause-run t c s =
-    let p = err_from_is_err_and c.from_residual-in_err-member.result c.from_residual-in_err-member.ensures.1 in
+pub predicate-returns-in-Err-clause-run : goal.predicate-returns-in-Err-clause-run
+predicate-returns-in-Err-clause-run t c s =
     let l = c.loop-after in
     let it = l.invariant in
     let past = c.in-Some.ensures in
@@ -74,7 +72,7 @@ predicate-returns-in_err-member-clause-run t c s =
     ≡ verdict limits c.args.end (unit c.args.depth ∷ tail c.args.depth ∷ s) c.in-Some.after.now =
     λ s. turn_ok limits c.args.end (tail c.args.depth ∷ s) (unit c.args.depth ∷ tail c.args.depth ∷ s)
     (Word Or past.2.0) l.rest.now past.0 c.in-Some.after.now past.1 past.2.1 refl in
-    rw (p.1, p.2) (same_fault _ _ c.in_err-member.field-0.0 (it.run s ∙ turned s) (c.in_err-member.ensures.run s))
+    same_fault _ _ c.in-Err.fault (it.run s ∙ turned s) (c.in-Err.ensures.run s)
 
 pub predicate-loop-after-preserved : goal.predicate-loop-after-preserved
 predicate-loop-after-preserved t c =
@@ -85,11 +83,11 @@ predicate-loop-after-preserved t c =
     ≡ verdict limits c.args.end (unit c.args.depth ∷ tail c.args.depth ∷ s) c.in-Some.after.now =
     λ s. turn_ok limits c.args.end (tail c.args.depth ∷ s) (unit c.args.depth ∷ tail c.args.depth ∷ s)
     (Word Or past.2.0) l.rest.now past.0 c.in-Some.after.now past.1 past.2.1 refl in
-    let m = c.in_ok-member in
+    let m = c.in-Ok in
     let mid : words l.rest.now ≡ past.0.token ∷ words c.in-Some.after.now =
     words_at past.0.token l.rest.now past.0 c.in-Some.after.now past.1 refl in
-    let pushed : c.push.new.self.items ≡ l.others.items ++ m.member ∷ [] = search rules in
-    let seen : map tree_of c.push.new.self.items ≡ map tree_of l.others.items ++ tree_of m.member ∷ [] =
+    let pushed : c.add.new.members.items ≡ l.others.items ++ m.member ∷ [] = search rules in
+    let seen : map tree_of c.add.new.members.items ≡ map tree_of l.others.items ++ tree_of m.member ∷ [] =
     ap (map tree_of) pushed ∙ map-append tree_of l.others.items (m.member ∷ []) in
     record {
       first = it.first;
@@ -102,7 +100,7 @@ predicate-loop-after-preserved t c =
       ends = m.ensures.ends;
       shorter = grind (arith, past.1);
       narrow_first = it.narrow_first;
-      narrow = longest-push c.push.new.self.items l.others.items m.member (search rules) it.narrow m.ensures.narrow;
+      narrow = longest-push c.add.new.members.items l.others.items m.member (search rules) it.narrow m.ensures.narrow;
     }
 
 pub predicate-returns-clause-run : goal.predicate-returns-clause-run
@@ -135,29 +133,26 @@ one_unit-returns-in_err-inner-in-StartOpen-clause-run t c s =
     rw (p.1, p.2) (same_fault _ _ c.in_err-inner-in-StartOpen.field-0.0 turned
     (c.in_err-inner-in-StartOpen.ensures.run (close ∷ s)))
 
-pub one_unit-returns-in_err-rest-in-StartOpen-clause-run : goal.one_unit-returns-in_err-rest-in-StartOpen-clause-run
-one_unit-returns-in_err-rest-in-StartOpen-clause-run t c s =
-    let p = err_from_is_err_and c.from_residual-in_err-rest-in-StartOpen.result
-    c.from_residual-in_err-rest-in-StartOpen.ensures.1 in
+pub one_unit-returns-in-Err-clause-run : goal.one_unit-returns-in-Err-clause-run
+one_unit-returns-in-Err-clause-run t c s =
     let es = sym c.start_of.ensures ∙ c.in-StartOpen.is in
     let room : 0 < c.args.depth = omega arith in
     let et = is_open c.in-Some.first.now.token es in
     let turned = turn_ok limits c.args.end (unit c.args.depth ∷ s) (unit (c.args.depth - 1) ∷ tail (c.args.depth - 1)
     ∷ close ∷ s) Open c.args.tokens.now c.in-Some.first.now c.in-Some.rest.now c.in-Some.ensures et
     (unit_open limits c.args.depth s room) in
-    rw (p.1, p.2) (same_fault _ _ c.in_err-rest-in-StartOpen.field-0.0
-    (turned ∙ c.in_ok-inner-in-StartOpen.ensures.run (close ∷ s)) (c.in_err-rest-in-StartOpen.ensures.run s))
+    same_fault _ _ c.in-Err.fault (turned ∙ c.in_ok-inner-in-StartOpen.ensures.run (close ∷ s)) (c.in-Err.ensures.run s)
 
-pub one_unit-returns-in_ok-rest-in-StartOpen-clause-read : goal.one_unit-returns-in_ok-rest-in-StartOpen-clause-read
-one_unit-returns-in_ok-rest-in-StartOpen-clause-read t c =
+pub one_unit-returns-in-Ok-clause-read : goal.one_unit-returns-in-Ok-clause-read
+one_unit-returns-in-Ok-clause-read t c =
     let es = sym c.start_of.ensures ∙ c.in-StartOpen.is in
     let room : 0 < c.args.depth = omega arith in
     let et = is_open c.in-Some.first.now.token es in
     let inner = c.in_ok-inner-in-StartOpen in
     read_open limits c.args.depth (words c.args.tokens.now) (words c.in-Some.rest.now) (words inner.rest.now)
-    (words c.in_ok-rest-in-StartOpen.rest.now) (tree_of inner.inner) room
+    (words c.in-Ok.rest.now) (tree_of inner.inner) room
     (words_at Open c.args.tokens.now c.in-Some.first.now c.in-Some.rest.now c.in-Some.ensures et)
-    inner.ensures.read c.in_ok-rest-in-StartOpen.ensures.read
+    inner.ensures.read c.in-Ok.ensures.read
 
 pub one_unit-returns-in-StartBand-clause-read : goal.one_unit-returns-in-StartBand-clause-read
 one_unit-returns-in-StartBand-clause-read t c =
