@@ -84,5 +84,6 @@ module _ (k id shift epoch feeders : ℕ) (theta : Meaning) where
         spent = same_spent i;
       }
 
+-- two joiners that begin alike are one
 pub one_beginning : BeginningsAreOne
 one_beginning k id shift epoch feeders theta = one_joiner k id shift epoch feeders theta

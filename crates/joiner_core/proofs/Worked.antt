@@ -12,6 +12,7 @@ use Rattle.joiner_core.specs.State.{MachineState}
 use Rattle.joiner_core.specs.Calls.{state_after, posts_after}
 use Rattle.joiner_core.specs.Machine.{post_to_collector}
 
+-- the first of two joiners, before any message
 abbrev pub joiner_0 : MachineState
 joiner_0 = record {
   epochs = record {

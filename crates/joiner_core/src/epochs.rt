@@ -131,7 +131,16 @@ impl<'a> Epochs<'a> {
     pub(crate) fn into_store(self) -> Store
         ensures { stocked_of result ≡ self.entry.store }
     {
-        let Epochs { store, .. } = self;
+        let Epochs {
+            store,
+            ended,
+            step,
+            moved,
+            ..
+        } = self;
+        drop(ended);
+        drop(step);
+        drop(moved);
         store
     }
 

@@ -5,11 +5,12 @@ ghost use Rattle.joiner_core.specs.State.{OpenStep};
 ghost use Rattle.joiner_core.specs.Taking.{IsStepWithin};
 ghost use Rattle.joiner_core.specs.Changes.{after_settle, posts_settled, IsReady};
 
-use super::Epochs;
+use super::{Epochs, Opened};
 use crate::stock;
 use epoch_tags::{Actor, Msg, Post, Sends, ToController, are_all_up};
 use migration_plan::exchanged_side;
 use std::alloc::AllocError;
+use std::mem;
 
 impl<'a> Epochs<'a> {
     // Whether all feeders have turned and the partner has ended its part.
@@ -57,9 +58,17 @@ impl<'a> Epochs<'a> {
         } }
     {
         if let Some(open) = self.step.take() {
-            self.epoch = open.epoch;
-            self.shift = open.shift;
-            self.store = open.store;
+            let Opened {
+                epoch,
+                shift,
+                turned,
+                store,
+                ..
+            } = open;
+            drop(turned);
+            self.epoch = epoch;
+            self.shift = shift;
+            drop(mem::replace(&mut self.store, store));
         }
     }
 }

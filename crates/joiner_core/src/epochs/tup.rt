@@ -4,7 +4,7 @@ ghost use Rattle.std.specs.Prelude.{◌≡◌, ◌++◌, true, false, OnOk};
 ghost use Rattle.epoch_tags.specs.declared.message.ToJoiner.TheVariants.{Tup};
 ghost use Rattle.joiner_core.specs.State.{IsRow};
 ghost use Rattle.joiner_core.specs.Taking.{IsWithin, CanTakeTup, TookOfFeeder};
-ghost use Rattle.joiner_core.specs.Changes.{after_old, found_old, posts_old, after_new, found_new};
+ghost use Rattle.joiner_core.specs.Changes.{after_old, found_old, open_old, posts_old, after_new, found_new};
 
 use super::{Epochs, pass_on};
 use crate::stock;
@@ -55,6 +55,36 @@ impl<'a> Epochs<'a> {
         Ok(())
     }
 
+    // What a tuple of the settled epoch meets, before it is stored: the pairs that it makes, and its copies in an open
+    // step.
+    fn meet_old(
+        &mut self,
+        tuple: &Tuple,
+        found: &mut Pairs,
+        sends: &mut Sends,
+    ) -> Result<(), AllocError>
+        requires within { IsWithin self.old }
+        requires row { IsRow self.old.theta tuple.now }
+        ensures state { OnOk result (self.new
+            ≡ record self.old { step = open_old self.old tuple.now self.old.step }) }
+        ensures found { OnOk result (found.new ≡ found.old ++ found_old self.old tuple.now) }
+        ensures posts { OnOk result (sends.new ≡ sends.old ++ posts_old self.old tuple.now) }
+    {
+        stock::probe(&self.store, tuple, self.theta, Which::All, found)?;
+        if let Some(open) = &mut self.step {
+            let to = partner_in_step(self.k, self.shift, open.shift, self.id);
+            pass_on(
+                exchanged_side(self.shift, open.shift),
+                to,
+                open.epoch,
+                tuple,
+                sends,
+            )?;
+            open.keep(self.k, self.id, self.theta, tuple, found)?;
+        }
+        Ok(())
+    }
+
     // A tuple of the settled epoch.
     fn take_old(
         &mut self,
@@ -68,19 +98,13 @@ impl<'a> Epochs<'a> {
         ensures found { OnOk result (found.new ≡ found.old ++ found_old self.old tuple) }
         ensures posts { OnOk result (sends.new ≡ sends.old ++ posts_old self.old tuple) }
     {
-        stock::probe(&self.store, &tuple, self.theta, Which::All, found)?;
-        if let Some(open) = &mut self.step {
-            let to = partner_in_step(self.k, self.shift, open.shift, self.id);
-            pass_on(
-                exchanged_side(self.shift, open.shift),
-                to,
-                open.epoch,
-                &tuple,
-                sends,
-            )?;
-            open.keep(self.k, self.id, self.theta, &tuple, found)?;
+        match self.meet_old(&tuple, found, sends) {
+            Ok(()) => stock::add(&mut self.store, self.theta, tuple),
+            Err(refused) => {
+                drop(tuple);
+                Err(refused)
+            }
         }
-        stock::add(&mut self.store, self.theta, tuple)
     }
 
     // A tuple of the open step's epoch.
