@@ -47,8 +47,13 @@ fn made(alloc: Global, count: u64) -> Result<Tables, AllocError>
     ensures whole_s { IfOk result (λ tables. IsTable tables.of_s) }
 {
     let of_r = make_table(alloc, Side::R, count)?;
-    let of_s = make_table(alloc, Side::S, count)?;
-    Ok(Tables { of_r, of_s })
+    match make_table(alloc, Side::S, count) {
+        Ok(of_s) => Ok(Tables { of_r, of_s }),
+        Err(refused) => {
+            drop(of_r);
+            Err(refused)
+        }
+    }
 }
 
 /// The two tables that the options ask for, or the first refusal: made ones, for which the shelf isn't
@@ -170,7 +175,11 @@ fn with_third<H: Shelf>(
             ends,
             third,
         }),
-        Err(refusal) => Err(refusal),
+        Err(refusal) => {
+            drop(tables);
+            drop(ends);
+            Err(refusal)
+        }
     }
 }
 

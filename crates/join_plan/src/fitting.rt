@@ -53,7 +53,10 @@ fn checked(planned: Planned) -> Result<Planned, Refusal>
         → IfErr result (Refuses old new told spot asked) }
 {
     match number_fault(&planned) {
-        Some(fault) => Err(Refusal::Input(fault)),
+        Some(fault) => {
+            drop(planned);
+            Err(Refusal::Input(fault))
+        }
         None => Ok(planned),
     }
 }
@@ -77,7 +80,11 @@ fn second_theta(
     ensures width_s { IfOk result (λ theta. theta.width_s ≡ length table.now.names) }
 {
     match joined_names(alloc, &tables.of_r.names, &tables.of_s.names) {
-        Ok(names) => theta(alloc, Which::Then, pred, &names, &table.names),
+        Ok(names) => {
+            let theta = theta(alloc, Which::Then, pred, &names, &table.names);
+            drop(names);
+            theta
+        }
         Err(AllocError) => Err(Refusal::Memory),
     }
 }
@@ -96,7 +103,10 @@ fn third_of(alloc: Global, tables: &Tables, pred: &Pred, table: Table) -> Result
 {
     match second_theta(alloc, tables, pred, &table) {
         Ok(theta) => Ok(Third { table, theta }),
-        Err(refusal) => Err(refusal),
+        Err(refusal) => {
+            drop(table);
+            Err(refusal)
+        }
     }
 }
 
@@ -167,7 +177,12 @@ fn planned_of(
             theta,
             third,
         }),
-        Err(refusal) => Err(refusal),
+        Err(refusal) => {
+            drop(tables);
+            drop(ends);
+            drop(theta);
+            Err(refusal)
+        }
     }
 }
 
@@ -202,6 +217,11 @@ pub(crate) fn fitted(alloc: Global, preds: &Preds, found: Gathered) -> Result<Pl
         &tables.of_s.names,
     ) {
         Ok(theta) => planned_of(alloc, tables, ends, theta, &preds.further, table),
-        Err(refusal) => Err(refusal),
+        Err(refusal) => {
+            drop(tables);
+            drop(ends);
+            drop(table);
+            Err(refusal)
+        }
     }
 }

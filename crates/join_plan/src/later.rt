@@ -57,7 +57,10 @@ fn read_next<H: Shelf>(
 {
     match table(alloc, shelf, file) {
         Ok(more) => with_more(file, waves, more),
-        Err(refusal) => Err(refusal),
+        Err(refusal) => {
+            drop(waves);
+            Err(refusal)
+        }
     }
 }
 

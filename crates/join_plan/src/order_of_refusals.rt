@@ -93,7 +93,11 @@ pub fn prepare<R: Threads, H: Shelf>(
     ensures counts { (result ≡ Err Refusal.Read → ⊥) → H.faults shelf.new ≡ H.faults shelf.old }
 {
     match predicates(alloc, options) {
-        Ok(preds) => prepare_over(rt, alloc, options, &preds, shelf),
+        Ok(preds) => {
+            let planned = prepare_over(rt, alloc, options, &preds, shelf);
+            drop(preds);
+            planned
+        }
         Err(refusal) => Err(refusal),
     }
 }

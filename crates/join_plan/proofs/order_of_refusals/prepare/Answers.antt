@@ -6,13 +6,16 @@ use Rattle.join_plan.proofs.order_of_refusals.prepare.Goals as goal
 
 pub returns-in-Ok-clause-answer : goal.returns-in-Ok-clause-answer
 returns-in-Ok-clause-answer g c files told same =
-    planned_by (asked c.args.options.now) files (trees_in c.in-Ok.preds) c.prepare_over.result c.in-Ok.ensures.have
-    (c.prepare_over.ensures.answer files told same)
+    planned_by (asked c.args.options.now) files (trees_in c.in-Ok.preds)
+    c.prepare_over-planned.result c.in-Ok.ensures.have
+    (c.prepare_over-planned.ensures.answer files told same)
 
 pub returns-in-Ok-clause-seen : goal.returns-in-Ok-clause-seen
 returns-in-Ok-clause-seen g c read memory =
-    seen_by (g.H.Shelf.told c.args.shelf.now) (g.H.Shelf.picked c.prepare_over.new.shelf) (asked c.args.options.now)
-    (trees_in c.in-Ok.preds) c.prepare_over.result c.in-Ok.ensures.have (c.prepare_over.ensures.seen read memory)
+    seen_by (g.H.Shelf.told c.args.shelf.now) (g.H.Shelf.picked c.prepare_over-planned.new.shelf)
+    (asked c.args.options.now)
+    (trees_in c.in-Ok.preds) c.prepare_over-planned.result c.in-Ok.ensures.have
+    (c.prepare_over-planned.ensures.seen read memory)
 
 pub returns-in-Ok-clause-further_early : goal.returns-in-Ok-clause-further_early
 returns-in-Ok-clause-further_early g c tree chain fault reads is wrong =
