@@ -1,6 +1,6 @@
 // The output of a run whose pairs are wanted early: their lines are put as they are found, and the report after them.
 
-ghost use Rattle.std.specs.Prelude.{◌≡◌, ◌≢◌, ◌<◌, [], ◌∷◌, Err, IfOk, true};
+ghost use Rattle.std.specs.Prelude.{◌≡◌, ◌<◌, true};
 ghost use Rattle.join_rows.specs.Shelves.{last_fault};
 ghost use Rattle.join_words.specs.Words.{asked, is_early};
 ghost use Rattle.join_plan.specs.Plan.{IsFit};
@@ -11,31 +11,19 @@ ghost use Rattle.join_cli.specs.Works.{IsWorkOf, IsWholeRun};
 
 use crate::input::{input, setting};
 use crate::outcome::Outcome;
-use crate::run::Course;
+use crate::run::{Course, trail_of};
 use crate::texts::report;
 use crate::work::Work;
 use join_plan::Planned;
 use join_report::put_all;
 use join_rows::{Failed, Sink};
-use join_runtime::{EarlyFault, Ends, Told, Trail, run_early};
+use join_runtime::{EarlyFault, Told, run_early};
 use join_words::Options;
 use link_trace::Run;
 use std::alloc::{AllocError, Global};
 use std::sync::Wait;
 use std::thread::Threads;
 use worker_gate::Gate;
-
-/// A trail of these ends alone.
-fn trail_of(alloc: Global, ends: Ends) -> Result<Trail, EarlyFault>
-    ensures only { IfOk result (λ trail. trail ≡ ends ∷ []) }
-    ensures memory { result ≢ Err EarlyFault.Write }
-{
-    let mut trail = Trail::new(alloc);
-    match trail.push(ends) {
-        Ok(()) => Ok(trail),
-        Err(_) => Err(EarlyFault::Memory),
-    }
-}
 
 /// Puts the report where one is asked for.
 fn put_report<K: Sink>(
@@ -54,7 +42,9 @@ fn put_report<K: Sink>(
         Ok(lines) => lines,
         Err(AllocError) => return Err(EarlyFault::Memory),
     };
-    match put_all(sink, lines.as_slice()) {
+    let put = put_all(sink, lines.as_slice());
+    drop(lines);
+    match put {
         Ok(()) => Ok(()),
         Err(Failed) => Err(EarlyFault::Write),
     }
@@ -74,10 +64,19 @@ fn put_found<R: Threads + Wait + Sync, G: Gate + Sync, K: Sink>(
     ensures { PutsCourse K.Sink options.now.report work.now sink.old sink.new result }
 {
     let Told { run, ends } = run_early(rt, alloc, work.input, work.setting, gate, sink)?;
-    let trail = trail_of(alloc, ends)?;
-    match put_report(alloc, options, work, &run, sink) {
-        Ok(()) => Ok(Course { run, trail }),
-        Err(fault) => Err(fault),
+    match trail_of(alloc, ends) {
+        Ok(trail) => match put_report(alloc, options, work, &run, sink) {
+            Ok(()) => Ok(Course { run, trail }),
+            Err(fault) => {
+                drop(run);
+                drop(trail);
+                Err(fault)
+            }
+        },
+        Err(AllocError) => {
+            drop(run);
+            Err(EarlyFault::Memory)
+        }
     }
 }
 

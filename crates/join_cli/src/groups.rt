@@ -1,17 +1,18 @@
 // The output of joiners in groups, each of which joins its part of R with all of S.
 
-ghost use Rattle.std.specs.Prelude.{◌≡◌, ◌<◌, ◌≤◌, ◌+◌, None, Some, All, IfOk, length, map};
+ghost use Rattle.std.specs.Prelude.{◌≡◌, ◌++◌, ◌<◌, ◌≤◌, ◌+◌, [], None, Some, All, IfOk, OnOk, if◌then◌else◌, length, map};
 ghost use Rattle.trace_law.specs.Join.{nested_loop};
-ghost use Rattle.group_split.specs.Sizes.{digits as digits'};
+ghost use Rattle.group_split.specs.Parts.{part as part'};
+ghost use Rattle.group_split.specs.Sizes.{digits as digits', numbers_of};
 ghost use Rattle.join_words.specs.Words.{asked, members_of};
-ghost use Rattle.join_cli.specs.Courses.{group_report, group_reports, groups_text};
+ghost use Rattle.join_cli.specs.Courses.{group_line, group_report, group_reports, groups_text};
 ghost use Rattle.join_cli.specs.Dealt.{AreRunsFrom, IsRunOfGroup, MayDeal};
 ghost use Rattle.join_cli.specs.Steps.{IsMadeOver};
 ghost use Rattle.join_cli.specs.Works.{IsWorkOf};
 
 use crate::outcome::{Journals, Outcome};
 use crate::output::Joined;
-use crate::texts::{answer, bytes_of};
+use crate::texts::{add, answer, bytes_of, journal_of};
 use crate::work::Work;
 use crate::work_of_groups::Dealt;
 use epoch_tags::Pair;
@@ -31,9 +32,30 @@ fn journals_of(alloc: Global, runs: Runs) -> Result<Journals, AllocError>
 {
     let mut journals = Journals::new(alloc);
     for run in runs.into_vec() {
-        journals.push(run.journal)?;
+        if let Err(refused) = journals.push(journal_of(run)) {
+            drop(journals);
+            return Err(refused);
+        }
     }
     Ok(journals)
+}
+
+/// How many rows of R a group joins.
+fn rows_of_group(alloc: Global, dealt: &Dealt<'_>, group: u64) -> Result<u64, AllocError>
+    ensures { IfOk result (λ count.
+        count ≡ length (part' dealt.now.joiners dealt.now.numbers.now group)) }
+{
+    let rows = part(alloc, dealt.joiners, dealt.numbers, group)?;
+    let count = rows.len();
+    drop(rows);
+    Ok(count)
+}
+
+/// The line before the report of a group, with its number and its size.
+fn line_of_group(alloc: Global, group: u64, size: u64) -> Result<Bytes, AllocError>
+    ensures { IfOk result (λ line. line ≡ group_line group size) }
+{
+    Ok(bytes_of(format!(in alloc; "group {group} {size}\n")?))
 }
 
 /// The report of a group of 2^exponent joiners, behind a line with its number and its size.
@@ -54,12 +76,22 @@ fn report_of_group(
         k: exponent,
         ..*dealt.work.setting
     };
-    let rows_r = part(alloc, dealt.joiners, dealt.numbers, group)?.len();
+    let rows_r = rows_of_group(alloc, dealt, group)?;
     let rows_s = dealt.work.input.table_s.rows.len();
-    let mut text = bytes_of(format!(in alloc; "group {group} {size}\n")?);
-    let lines = report_text(alloc, &setting, rows_r, rows_s, run)?;
-    text.append(lines.as_bytes())?;
-    Ok(text)
+    let mut text = line_of_group(alloc, group, size)?;
+    match report_text(alloc, &setting, rows_r, rows_s, run) {
+        Ok(lines) => match add(&mut text, bytes_of(lines)) {
+            Ok(()) => Ok(text),
+            Err(refused) => {
+                drop(text);
+                Err(refused)
+            }
+        },
+        Err(refused) => {
+            drop(text);
+            Err(refused)
+        }
+    }
 }
 
 /// The reports of the groups from this one on, with these exponents.
@@ -84,9 +116,19 @@ fn reports_from(
         return Ok(Bytes::new(alloc));
     };
     let mut text = report_of_group(alloc, dealt, group, *exponent as u32, run)?;
-    let others = reports_from(alloc, dealt, group + 1, exponents, runs)?;
-    text.append(others.as_slice())?;
-    Ok(text)
+    match reports_from(alloc, dealt, group + 1, exponents, runs) {
+        Ok(others) => match add(&mut text, others) {
+            Ok(()) => Ok(text),
+            Err(refused) => {
+                drop(text);
+                Err(refused)
+            }
+        },
+        Err(refused) => {
+            drop(text);
+            Err(refused)
+        }
+    }
 }
 
 /// The reports of all groups.
@@ -98,6 +140,26 @@ fn reports(alloc: Global, dealt: &Dealt<'_>, runs: &[Run]) -> Result<Bytes, Allo
 {
     let exponents = digits(alloc, dealt.joiners)?;
     reports_from(alloc, dealt, 0, exponents.as_slice(), runs)
+}
+
+/// Appends the reports where they are asked for.
+fn add_reports(
+    alloc: Global,
+    options: &Options<'_>,
+    dealt: &Dealt<'_>,
+    runs: &[Run],
+    text: &mut Bytes,
+) -> Result<(), AllocError>
+    requires { AreRunsFrom dealt.now 0 (digits' dealt.now.joiners) runs.now }
+    ensures { OnOk result (text.new ≡ text.old ++ (if options.now.report
+        then group_reports dealt.now.work.input.now dealt.now.joiners dealt.now.numbers.now
+        dealt.now.work.setting.now 0 (digits' dealt.now.joiners) (map (λ run. run.journal) runs.now)
+        else [])) }
+{
+    if options.report {
+        return add(text, reports(alloc, dealt, runs)?);
+    }
+    Ok(())
 }
 
 /// The text of the pairs, and then the reports where they are asked for.
@@ -115,11 +177,59 @@ fn text_of_groups(
         dealt.now.numbers.now (map (λ run. run.journal) runs.now)) }
 {
     let mut text = answer(alloc, options, &dealt.work, pairs)?;
-    if options.report {
-        let lines = reports(alloc, dealt, runs)?;
-        text.append(lines.as_slice())?;
+    match add_reports(alloc, options, dealt, runs, &mut text) {
+        Ok(()) => Ok(text),
+        Err(refused) => {
+            drop(text);
+            Err(refused)
+        }
     }
-    Ok(text)
+}
+
+/// That output over these numbers of R's rows.
+fn output_of_dealt<R: Threads + Wait + Sync, G: Gate + Sync>(
+    rt: &R,
+    alloc: Global,
+    options: &Options<'_>,
+    dealt: &Dealt<'_>,
+    gate: &G,
+) -> Result<Joined, AllocError>
+    requires kind { members_of (asked options.now).kind ≡ Some dealt.now.joiners }
+    requires work { IsWorkOf (asked options.now) dealt.now.work }
+    requires numbers { dealt.now.numbers.now ≡ numbers_of options.now.seed dealt.now.joiners
+        (length dealt.now.work.input.now.table_r.rows) }
+    requires some { 1 ≤ dealt.now.joiners }
+    ensures { IfOk result (IsMadeOver (asked options.now) dealt.now.work.input.now) }
+{
+    let GroupsRun { pairs, runs, trail } = run_groups(
+        rt,
+        alloc,
+        dealt.work.input,
+        dealt.joiners,
+        dealt.numbers,
+        dealt.work.setting,
+        gate,
+    )?;
+    let text = text_of_groups(alloc, options, dealt, pairs.as_slice(), runs.as_slice());
+    drop(pairs);
+    match text {
+        Ok(text) => match journals_of(alloc, runs) {
+            Ok(journals) => {
+                let done = Outcome::DoneGroups { journals, trail };
+                Ok(Joined { text, done })
+            }
+            Err(refused) => {
+                drop(text);
+                drop(trail);
+                Err(refused)
+            }
+        },
+        Err(refused) => {
+            drop(runs);
+            drop(trail);
+            Err(refused)
+        }
+    }
 }
 
 /// The output that the options ask for of so many joiners in groups.
@@ -138,24 +248,12 @@ pub(crate) fn groups_output<R: Threads + Wait + Sync, G: Gate + Sync>(
 {
     let rows = work.input.table_r.rows.len();
     let numbers = numbers(alloc, options.seed, joiners, rows)?;
-    let GroupsRun { pairs, runs, trail } = run_groups(
-        rt,
-        alloc,
-        work.input,
-        joiners,
-        &numbers,
-        work.setting,
-        gate,
-    )?;
     let dealt = Dealt {
         work: *work,
         joiners,
         numbers: &numbers,
     };
-    let text = text_of_groups(alloc, options, &dealt, pairs.as_slice(), runs.as_slice())?;
-    let journals = journals_of(alloc, runs)?;
-    Ok(Joined {
-        text,
-        done: Outcome::DoneGroups { journals, trail },
-    })
+    let made = output_of_dealt(rt, alloc, options, &dealt, gate);
+    drop(numbers);
+    made
 }

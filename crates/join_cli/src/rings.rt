@@ -7,7 +7,7 @@ ghost use Rattle.join_cli.specs.Works.{IsWorkOf};
 
 use crate::outcome::Outcome;
 use crate::output::Joined;
-use crate::texts::text;
+use crate::texts::{journal_of, text};
 use crate::work::Work;
 use join_words::Options;
 use ring_runtime::{RingRun, ring_run};
@@ -28,13 +28,20 @@ pub(crate) fn rings_output<R: Threads + Sync, G: Gate + Sync>(
     ensures { IfOk result (IsMadeOver (asked options.now) work.now.input.now) }
 {
     let RingRun { run, ends, fallen } = ring_run(rt, alloc, work.input, work.setting, gate)?;
-    let text = text(alloc, options, work, &run)?;
-    Ok(Joined {
-        text,
-        done: Outcome::DoneRings {
-            journal: run.journal,
-            ends,
-            fallen,
-        },
-    })
+    match text(alloc, options, work, &run) {
+        Ok(text) => {
+            let journal = journal_of(run);
+            let done = Outcome::DoneRings {
+                journal,
+                ends,
+                fallen,
+            };
+            Ok(Joined { text, done })
+        }
+        Err(refused) => {
+            drop(run);
+            drop(ends);
+            Err(refused)
+        }
+    }
 }

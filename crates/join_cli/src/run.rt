@@ -1,6 +1,6 @@
 // The output of a run in one wave.
 
-ghost use Rattle.std.specs.Prelude.{IfOk, None, Some};
+ghost use Rattle.std.specs.Prelude.{◌≡◌, [], ◌∷◌, IfOk, None, Some};
 ghost use Rattle.join_words.specs.Words.{asked};
 ghost use Rattle.join_cli.specs.Kinds.{IsOneWave};
 ghost use Rattle.join_cli.specs.Steps.{IsCarriedOut, IsMadeOver};
@@ -10,7 +10,7 @@ use crate::outcome::Outcome;
 use crate::output::Joined;
 use crate::texts::{journal_of, text};
 use crate::work::Work;
-use join_runtime::{Told, Trail, run};
+use join_runtime::{Ends, Told, Trail, run};
 use join_words::Options;
 use link_trace::{Run, replay};
 use std::alloc::{AllocError, Global};
@@ -41,6 +41,20 @@ fn replayed<R: Wait>(
     })
 }
 
+/// A trail of these ends alone.
+pub(crate) fn trail_of(alloc: Global, ends: Ends) -> Result<Trail, AllocError>
+    ensures { IfOk result (λ trail. trail ≡ ends ∷ []) }
+{
+    let mut trail = Trail::new(alloc);
+    match trail.push(ends) {
+        Ok(()) => Ok(trail),
+        Err(refused) => {
+            drop(trail);
+            Err(refused)
+        }
+    }
+}
+
 /// A run in threads.
 fn threaded<R: Threads + Wait + Sync, G: Gate + Sync>(
     rt: &R,
@@ -51,9 +65,13 @@ fn threaded<R: Threads + Wait + Sync, G: Gate + Sync>(
     ensures { IfOk result (IsCarriedOut None work.now) }
 {
     let Told { run, ends } = run(rt, alloc, work.input, work.setting, gate)?;
-    let mut trail = Trail::new(alloc);
-    trail.push(ends)?;
-    Ok(Course { run, trail })
+    match trail_of(alloc, ends) {
+        Ok(trail) => Ok(Course { run, trail }),
+        Err(refused) => {
+            drop(run);
+            Err(refused)
+        }
+    }
 }
 
 /// The work's run: in threads, or as a replay where it has a number of one.

@@ -8,6 +8,7 @@ ghost use Rattle.join_cli.specs.Waves.{upto_of};
 ghost use Rattle.join_cli.specs.Works.{view_of};
 
 use crate::in_one::{no_waves, run_of_both, trail_of_both};
+use crate::run::trail_of;
 use crate::work::Work;
 use join_plan::WaveEnd;
 use join_runtime::{Trail, WaveTold, run_wave};
@@ -55,13 +56,15 @@ fn threaded<R: Threads + Wait + Sync, G: Gate + Sync>(
     ensures { IfOk result (IsWaveFrom None work.now rest end) }
 {
     let WaveTold { wave, ends } = run_wave(rt, alloc, rest, work.input, work.setting, end, gate)?;
-    let mut trail = Trail::new(alloc);
-    trail.push(ends)?;
-    Ok(Waved {
-        run: wave.run,
-        trail,
-        rest: wave.rest,
-    })
+    let WaveRun { run, rest } = wave;
+    match trail_of(alloc, ends) {
+        Ok(trail) => Ok(Waved { run, trail, rest }),
+        Err(refused) => {
+            drop(run);
+            drop(rest);
+            Err(refused)
+        }
+    }
 }
 
 /// The wave that goes on from this rest: in threads, or as a replay where the work has a number of one.

@@ -1,4 +1,4 @@
-use Rattle.std.proofs.Common.{◌≡◌, ◌≤◌, ◌^◌, ◌∙◌, ap, length, arith}
+use Rattle.std.proofs.Common.{◌≡◌, ◌≤◌, ◌^◌, length, arith}
 use Rattle.row_cells.specs.declared.table.Side.TheVariants.{R, S}
 use Rattle.group_split.specs.Parts.{part}
 use Rattle.group_split.proofs.Parted.{part_few}
@@ -30,8 +30,8 @@ report_text-requires-clause-rows_r c =
     let few : length dealt.work.input.now.table_r.rows ≤ 2 ^ 18 = (dealt.work.valid_input.sides R).few in
     let many = dealt.many in
     let fewer = part_few dealt.joiners dealt.numbers.now c.args.group in
-    let is : c.len-rows_r.result ≡ length (part dealt.joiners dealt.numbers.now c.args.group) =
-    c.len-rows_r.ensures ∙ ap length c.in_ok-part.ensures in
+    let is : c.in_ok-rows_r.rows_r ≡ length (part dealt.joiners dealt.numbers.now c.args.group) =
+    c.in_ok-rows_r.ensures in
     omega (arith, is)
 
 pub report_text-requires-clause-rows_s : goal.report_text-requires-clause-rows_s
