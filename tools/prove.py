@@ -20,8 +20,9 @@ this can't be done here: memory is little, say, or `rt` isn't as it was when thi
 """
 import copy, importlib.machinery, importlib.util, os, shutil, signal, sys, tempfile, threading
 
-# What part of the longest way up to the program a crate on it may lose at most; and the jobs of such a crate.
-NEAR, JOBS = 0.05, 4
+# What part of the longest way up to the program a crate on it may lose at most; and the jobs of such a crate, where
+# others are at work beside it, and where none is. (Each job reads what lies below.)
+NEAR, JOBS, JOBS_ALONE = 0.05, 2, 4
 # The most other crates at once; how much their processes give way; and the free memory in bytes that all want. (Where
 # they give way more, they come too late: all of four processors are at work throughout.)
 PLACES, BEHIND, MEMORY = 3, 2, 15 << 30
@@ -139,7 +140,8 @@ class Build:
         for crate in sorted(self.crates, key=lambda it: -self.above[it]):
             if self.may_begin(crate):
                 self.begun.append(crate.name)
-                given = (crate, min(JOBS, self.processors), 0) if self.is_near(crate) else (crate, 1, BEHIND)
+                most = JOBS if len(self.begun) - len(self.proved) > 1 else JOBS_ALONE
+                given = (crate, min(most, self.processors), 0) if self.is_near(crate) else (crate, 1, BEHIND)
                 threading.Thread(target=self.work, args=given, daemon=True).start()
 
     def run(self):
