@@ -1,10 +1,10 @@
 #!/bin/sh
 # Counts the instructions and the heap's calls of the whole program with one worker: 20,000 rows a side, equal numbers, one
 # match a row. Other than times they are nearly the same on any machine, so a change shows by them what it costs. Fails where
-# either is more than a hundredth above what stands here, which was measured once a run with one worker made R's table before
-# it read S. JM names another program than the repository's own. It wants valgrind.
+# either is more than a hundredth above what stands here, which was measured once texts stood in
+# place of cells. JM names another program than the repository's own. It wants valgrind.
 set -eu
-instructions=306200000
+instructions=282300000
 calls=29300
 top=$(cd "$(dirname "$0")/.." && pwd -P)
 jm=${JM:-$top/crates/jm/out/jm}

@@ -21,10 +21,9 @@ fn a_copy_has_all_of_its_tuple(rt: HostRuntime) -> Result<(), Fail> {
         "numbers"
     );
     assert!(rt; copy.cells.len() == 1, "cells");
-    let cell = copy.cells.at(0);
-    assert!(rt; cell.num == Some(42), "number of the cell");
+    assert!(rt; copy.cells.number_at(0) == Some(42), "number of the cell");
     assert!(rt;
-        cell.text.as_slice() == b"42".as_slice(),
+        copy.cells.text_at(0) == b"42".as_slice(),
         "text of the cell"
     );
     assert!(rt; tuple.stamp == 3, "the tuple itself");
@@ -59,18 +58,25 @@ fn pairs_keep_their_order(rt: HostRuntime) -> Result<(), Fail> {
     Ok(())
 }
 
-// One pair, which lies within the list, and three, which don't: a vector of them, and a list of that.
+// None, one and two pairs, which lie within the list, and four, which don't: a vector of them, a list of that, a list
+// of the same, and twice as many in one.
 #[test]
 fn pairs_are_handed_out(rt: HostRuntime) -> Result<(), Fail> {
-    for count in [1, 3] {
+    for count in [0, 1, 2, 4] {
         let mut pairs = Pairs::new(rt.alloc());
         for i in 0..count {
             pairs.push(Pair { i, j: i })?;
         }
         let held = pairs.into_vec()?;
         assert_eq!(rt; held.len(), count as usize);
-        let pairs = Pairs::from_vec(held);
-        assert_eq!(rt; pairs.len(), u64::from(count));
+        let same = Pairs::from_slice(rt.alloc(), held.as_slice())?;
+        let mut pairs = Pairs::from_vec(held);
+        assert_eq!(rt; pairs.as_slice(), same.as_slice());
+        pairs.append(same.as_slice())?;
+        assert_eq!(rt; pairs.len(), 2 * u64::from(count));
+        for i in 0..count {
+            assert_eq!(rt; *pairs.at(u64::from(count + i)), Pair { i, j: i });
+        }
     }
     Ok(())
 }

@@ -115,9 +115,9 @@ fn reports_from(
     let [run, runs @ ..] = runs else {
         return Ok(Bytes::new(alloc));
     };
-    let mut text = report_of_group(alloc, dealt, group, *exponent as u32, run)?;
-    match reports_from(alloc, dealt, group + 1, exponents, runs) {
-        Ok(others) => match add(&mut text, others) {
+    let others = reports_from(alloc, dealt, group + 1, exponents, runs)?;
+    match report_of_group(alloc, dealt, group, *exponent as u32, run) {
+        Ok(mut text) => match add(&mut text, others) {
             Ok(()) => Ok(text),
             Err(refused) => {
                 drop(text);
@@ -125,7 +125,7 @@ fn reports_from(
             }
         },
         Err(refused) => {
-            drop(text);
+            drop(others);
             Err(refused)
         }
     }

@@ -2,51 +2,51 @@
 
 ghost use Rattle.std.specs.Prelude.{◌≡◌, ◌++◌, ℕ, List, IfOk, OnOk, map};
 ghost use Rattle.csv.specs.Reading.{default_config, records};
-ghost use Rattle.csv.specs.Writing.{default_writer, read_back, row_text};
-ghost use Rattle.join_report.specs.RowLines.{joined_fields, row_at as row_at', row_lines, texts_of};
+ghost use Rattle.csv.specs.Writing.{read_back};
+ghost use Rattle.join_report.specs.RowLines.{joined_fields, row_at, row_line, row_lines, texts_of};
 ghost use Rattle.join_report.specs.Writers.{HasWritten};
 
 use csv::{Writer, WriterBuilder};
 use epoch_tags::Pair;
-use row_cells::{Bytes, Cell, Rows};
+use row_cells::{Bytes, Cells, Rows};
 use std::alloc::{AllocError, Global};
 
-/// The cells of the row at a place, none where there is no such row.
-fn row_at<'a>(rows: &'a Rows, place: u64) -> &'a [Cell]
-    ensures { result.now ≡ row_at' rows.now place }
-{
-    if place < rows.len() {
-        rows.at(place).as_slice()
-    } else {
-        &[]
-    }
-}
-
 /// Adds the texts of a row's cells.
-fn push_texts<'a>(fields: &mut Vec<&'a [u8]>, row: &'a [Cell]) -> Result<(), AllocError>
+fn push_texts<'a>(fields: &mut Vec<&'a [u8]>, row: &'a Cells) -> Result<(), AllocError>
     ensures { OnOk result (map (λ field. field.now) fields.new.items
         ≡ map (λ field. field.now) fields.old.items ++ texts_of row.now) }
 {
-    for cell in row {
-        fields.push(cell.text.as_slice())?;
+    for place in 0..row.len() {
+        fields.push(row.text_at(place))?;
     }
     Ok(())
 }
 
-/// Writes the record of two rows. `fields` is room for its fields.
+/// Adds the texts of the row at a place, where there is one.
+fn push_row<'a>(fields: &mut Vec<&'a [u8]>, rows: &'a Rows, place: u32) -> Result<(), AllocError>
+    ensures { OnOk result (map (λ field. field.now) fields.new.items
+        ≡ map (λ field. field.now) fields.old.items ++ texts_of (row_at rows.now place)) }
+{
+    match rows.as_slice().get(place as usize) {
+        Some(row) => push_texts(fields, row),
+        None => Ok(()),
+    }
+}
+
+/// Writes the record of a pair. `fields` is room for its fields.
 fn write_row<'a>(
     writer: &mut Writer<Vec<u8>>,
     fields: &mut Vec<&'a [u8]>,
-    row_r: &'a [Cell],
-    row_s: &'a [Cell],
+    rows_r: &'a Rows,
+    rows_s: &'a Rows,
+    pair: Pair,
 ) -> Result<(), AllocError>
     ensures { OnOk result ((text : List ℕ) → HasWritten writer.old text
-        → HasWritten writer.new
-        (text ++ row_text default_writer (texts_of row_r.now ++ texts_of row_s.now))) }
+        → HasWritten writer.new (text ++ row_line rows_r.now rows_s.now pair)) }
 {
     fields.clear();
-    push_texts(fields, row_r)?;
-    push_texts(fields, row_s)?;
+    push_row(fields, rows_r, pair.i)?;
+    push_row(fields, rows_s, pair.j)?;
     match writer.write_fields(fields.as_slice()) {
         Ok(()) => Ok(()),
         Err(_) => Err(AllocError),
@@ -70,9 +70,7 @@ pub fn rows_text(
     let mut writer = WriterBuilder::new().from_writer(Vec::new(alloc));
     let mut fields = Vec::new(alloc);
     for pair in pairs {
-        let row_r = row_at(rows_r, u64::from(pair.i));
-        let row_s = row_at(rows_s, u64::from(pair.j));
-        write_row(&mut writer, &mut fields, row_r, row_s)?;
+        write_row(&mut writer, &mut fields, rows_r, rows_s, *pair)?;
     }
     match writer.into_inner() {
         Ok(text) => Ok(Bytes::from_vec(text)),

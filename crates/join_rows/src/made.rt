@@ -1,11 +1,13 @@
 // The tables that the generator makes.
 
-ghost use Rattle.std.specs.Prelude.{◌≡◌, ◌≤◌, ◌<◌, ◌^◌, IfOk};
+ghost use Rattle.std.specs.Prelude.{◌≡◌, ◌≤◌, ◌<◌, ◌^◌, ◌++◌, ◌∷◌, [], IfOk, OnOk, map};
+ghost use Rattle.std.specs.List.{range_with_len};
+ghost use Rattle.std.specs.Fmt.{decimal};
 ghost use Rattle.join_rows.specs.Made.{made_fields, made_key as made_key', made_names as made_names', made_table, made_val as made_val'};
-ghost use Rattle.row_cells.specs.Cells.{cells_of};
 ghost use Rattle.join_rows.specs.Records.{IsTable};
+ghost use Rattle.row_cells.specs.Shared.{AreRowsOf};
 
-use row_cells::{Bytes, Cell, Cells, Names, Rows, Side, Table};
+use row_cells::{Bytes, Names, Side, Table, Texts, rows_over};
 use std::alloc::{AllocError, Global};
 
 // The header of every made table.
@@ -40,16 +42,36 @@ fn made_val(side: Side, place: u64) -> u64
     }
 }
 
-// The row at `place`, counted from 0.
-fn made_row(alloc: Global, side: Side, place: u64) -> Result<Cells, AllocError>
-    requires { place < 2 ^ 16 }
-    ensures { IfOk result (λ cells. cells ≡ cells_of (made_fields side place)) }
+// Appends the number in decimal.
+fn add_number(alloc: Global, texts: &mut Texts, number: u64) -> Result<(), AllocError>
+    ensures { OnOk result (texts.new ≡ texts.old ++ decimal number ∷ []) }
 {
-    let mut cells = Cells::with_room(alloc, 3)?;
-    cells.push(Cell::decimal(alloc, place + 1)?)?;
-    cells.push(Cell::decimal(alloc, made_key(side, place))?)?;
-    cells.push(Cell::decimal(alloc, made_val(side, place))?)?;
-    Ok(cells)
+    let text = format!(in alloc; "{number}")?;
+    texts.push(text.as_bytes())
+}
+
+// Appends the fields of the row at `place`, counted from 0.
+fn add_row(alloc: Global, texts: &mut Texts, side: Side, place: u64) -> Result<(), AllocError>
+    requires { place < 2 ^ 16 }
+    ensures { OnOk result (texts.new ≡ texts.old ++ made_fields side place) }
+{
+    add_number(alloc, texts, place + 1)?;
+    add_number(alloc, texts, made_key(side, place))?;
+    add_number(alloc, texts, made_val(side, place))?;
+    Ok(())
+}
+
+// The fields of so many rows, one row behind the other.
+fn made_texts(alloc: Global, side: Side, count: u64) -> Result<Texts, AllocError>
+    requires { count ≤ 2 ^ 16 }
+    ensures { IfOk result
+        (AreRowsOf (map (made_fields side) (range_with_len 0 count)) 3 count) }
+{
+    let mut texts = Texts::new(alloc);
+    for place in 0..count {
+        add_row(alloc, &mut texts, side, place)?;
+    }
+    Ok(texts)
 }
 
 /// The table of `count` rows that the generator makes for a side. Under the header `id,key,val` the row at place
@@ -62,9 +84,7 @@ pub fn make_table(alloc: Global, side: Side, count: u64) -> Result<Table, AllocE
     ensures table { IfOk result IsTable }
 {
     let names = made_names(alloc)?;
-    let mut rows = Rows::with_room(alloc, count as usize)?;
-    for place in 0..count {
-        rows.push(made_row(alloc, side, place)?)?;
-    }
+    let texts = made_texts(alloc, side, count)?;
+    let rows = rows_over(alloc, texts, 3, count)?;
     Ok(Table { names, rows })
 }

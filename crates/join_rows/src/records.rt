@@ -5,14 +5,13 @@ ghost use Rattle.csv.specs.Reading.{Ready, default_config, reader_config, reader
 ghost use Rattle.csv.specs.Records.{fields_of};
 ghost use Rattle.csv.specs.declared.parser.State.TheVariants as st;
 ghost use Rattle.csv.specs.declared.reader.Trim.TheVariants as trim;
-ghost use Rattle.row_cells.specs.Cells.{cells_of};
 ghost use Rattle.join_rows.specs.Records.{IsTable, records_of, table_of, table_of_records};
 ghost use Rattle.join_rows.specs.declared.fault.TableFault.TheVariants as fault;
 
 use crate::byte_order_marks::without_marks;
 use crate::fault::TableFault;
 use csv::{ByteRecord, Reader, ReaderBuilder};
-use row_cells::{Bytes, Cell, Names, Table, rows_over};
+use row_cells::{Bytes, Names, Table, Texts, rows_over};
 use std::alloc::{AllocError, Global};
 
 /// How many bytes a file may have.
@@ -34,13 +33,13 @@ fn names_from(alloc: Global, row: &ByteRecord) -> Result<Names, AllocError>
     Ok(names)
 }
 
-// Appends the fields of a record, as cells.
-fn add_cells(alloc: Global, cells: &mut Vec<Cell>, row: &ByteRecord) -> Result<(), AllocError>
-    ensures { OnOk result (cells.new.items ≡ cells.old.items ++ cells_of (fields_of row.now)) }
+// Appends the fields of a record.
+fn add_fields(texts: &mut Texts, row: &ByteRecord) -> Result<(), AllocError>
+    ensures { OnOk result (texts.new ≡ texts.old ++ fields_of row.now) }
 {
     let mut place = 0;
     while let Some(field) = row.get(place) {
-        cells.push(Cell::new(Bytes::from_slice(alloc, field)?))?;
+        texts.push(field)?;
         place += 1;
     }
     Ok(())
@@ -73,13 +72,13 @@ pub(crate) fn table_from(alloc: Global, text: &[u8]) -> Result<Table, TableFault
     }
     let width = row.len();
     let names = names_from(alloc, &row)?;
-    let mut cells = Vec::new(alloc);
+    let mut texts = Texts::new(alloc);
     let mut count = 0;
     'rows: loop {
         match reader.read_byte_record(&mut row) {
             Err(_) => return Err(TableFault::Memory),
             Ok(false) => {
-                let rows = rows_over(alloc, cells, width, count)?;
+                let rows = rows_over(alloc, texts, width as u64, count)?;
                 return Ok(Table { names, rows });
             }
             Ok(true) => {}
@@ -93,7 +92,7 @@ pub(crate) fn table_from(alloc: Global, text: &[u8]) -> Result<Table, TableFault
                 found: row.len() as u64,
             });
         }
-        add_cells(alloc, &mut cells, &row)?;
+        add_fields(&mut texts, &row)?;
         count += 1;
     }
 }

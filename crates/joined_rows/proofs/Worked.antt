@@ -1,5 +1,5 @@
 -- Worked rows: joined names, and the joined row of a pair.
-use Rattle.std.proofs.Common.{◌≡◌, ℕ, List, [], ◌∷◌, refl}
+use Rattle.std.proofs.Common.{◌≡◌, [], ◌∷◌, refl}
 use Rattle.std.specs.Prelude.{codes}
 use Rattle.row_cells.specs.Cells.{cell_of}
 use Rattle.joined_rows.specs.Joined.{joined_names, joined_row}

@@ -1,53 +1,35 @@
 // The joined rows.
 
 ghost use Rattle.std.specs.Prelude.{◌≡◌, ◌++◌, IfOk, OnOk, map};
-ghost use Rattle.joined_rows.specs.Joined.{joined_row as joined_row', row_at as row_at'};
+ghost use Rattle.row_cells.specs.Cells.{cells_of};
+ghost use Rattle.joined_rows.specs.Joined.{joined_row as joined_row', row_at};
 
 use epoch_tags::Pair;
-use row_cells::{Cell, Cells, Rows};
+use row_cells::{Cells, Rows, Texts};
 use std::alloc::{AllocError, Global};
 
-// The cells of the row at a place, none where there is no such row.
-fn row_at<'a>(rows: &'a Rows, place: u32) -> &'a [Cell]
-    ensures { result.now ≡ row_at' rows.now place }
+// Appends the texts of the row at a place, where there is one.
+fn add_row(texts: &mut Texts, rows: &Rows, place: u32) -> Result<(), AllocError>
+    ensures { OnOk result (cells_of texts.new ≡ cells_of texts.old ++ row_at rows.now place) }
 {
     match rows.as_slice().get(place as usize) {
-        Some(row) => row.as_slice(),
-        None => &[],
+        Some(row) => row.add_texts(texts),
+        None => Ok(()),
     }
-}
-
-// Appends equal cells.
-fn add_cells(cells: &mut Vec<Cell>, row: &[Cell]) -> Result<(), AllocError>
-    ensures { OnOk result (cells.new.items ≡ cells.old.items ++ row.now) }
-{
-    for cell in row {
-        cells.push(cell.copy()?)?;
-    }
-    Ok(())
-}
-
-// Cells of one row, and then those of another.
-fn one_row(alloc: Global, row_r: &[Cell], row_s: &[Cell]) -> Result<Cells, AllocError>
-    ensures { IfOk result (λ row. row ≡ row_r.now ++ row_s.now) }
-{
-    let mut cells = Vec::with_capacity(alloc, row_r.len().saturating_add(row_s.len()))?;
-    add_cells(&mut cells, row_r)?;
-    add_cells(&mut cells, row_s)?;
-    Cells::from_vec(alloc, cells)
 }
 
 // The joined row of a pair.
 fn joined_row(alloc: Global, rows_r: &Rows, rows_s: &Rows, pair: Pair) -> Result<Cells, AllocError>
     ensures { IfOk result (λ row. row ≡ joined_row' rows_r.now rows_s.now pair) }
 {
-    let row_r = row_at(rows_r, pair.i);
-    let row_s = row_at(rows_s, pair.j);
-    one_row(alloc, row_r, row_s)
+    let mut texts = Texts::new(alloc);
+    add_row(&mut texts, rows_r, pair.i)?;
+    add_row(&mut texts, rows_s, pair.j)?;
+    Cells::from_texts(alloc, texts)
 }
 
 /// A row for each pair, in their order: the cells of its row of R, and then those of its row of S. A place at
-/// which there is no row has no cells. The new rows have copies of the cells; copies of a new row share its cells.
+/// which there is no row has no cells. The new rows have copies of the texts; copies of a new row share them.
 pub fn joined_rows(
     alloc: Global,
     rows_r: &Rows,

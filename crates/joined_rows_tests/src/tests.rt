@@ -26,8 +26,10 @@ fn rows(alloc: Global, numbers: &[u64]) -> Result<Rows, AllocError> {
 // The numbers of a row, as digits.
 fn digits(row: &Cells) -> i64 {
     let mut digits = 0i64;
-    for cell in row.as_slice() {
-        digits = digits.wrapping_mul(10).wrapping_add(cell.num.unwrap_or(0));
+    for place in 0..row.len() {
+        digits = digits
+            .wrapping_mul(10)
+            .wrapping_add(row.number_at(place).unwrap_or(0));
     }
     digits
 }

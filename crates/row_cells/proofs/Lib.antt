@@ -7,3 +7,4 @@ pub mod Numbers
 pub mod ShortNumbers
 pub mod BadCells
 pub mod SharedRows
+pub mod CutTexts

@@ -2,18 +2,13 @@
 
 ghost use Rattle.std.specs.Prelude.{◌≡◌, ◌<◌, ◌++◌, ◌∷◌, [], Some, length, IfOk, OnOk, OnErr, slice_get};
 
-use smallvec::SmallVec;
 use std::alloc::{AllocError, Global};
 use std::marker::Model;
 
-// How many bytes lie within the list.
-const SHORT: usize = 16;
-
-/// A list of bytes in their order. As long as there are 16 at most they lie within it, so that a short text needs no
-/// memory of its own.
+/// A list of bytes in their order.
 #[derive(Debug, Drop)]
 pub struct Bytes {
-    held: SmallVec<u8, SHORT>,
+    held: Vec<u8>,
 }
 
 impl Model for Bytes {
@@ -30,7 +25,7 @@ impl Bytes {
         ensures { result ≡ [] }
     {
         Bytes {
-            held: SmallVec::new(alloc),
+            held: Vec::new(alloc),
         }
     }
 
@@ -38,18 +33,16 @@ impl Bytes {
     pub fn from_vec(held: Vec<u8>) -> Bytes
         ensures { result ≡ held.items }
     {
-        Bytes {
-            held: SmallVec::from_vec(held),
-        }
+        Bytes { held }
     }
 
     /// A list of these bytes.
     pub fn from_slice(alloc: Global, bytes: &[u8]) -> Result<Bytes, AllocError>
         ensures { IfOk result (λ items. items ≡ bytes.now) }
     {
-        Ok(Bytes {
-            held: SmallVec::from_slice(alloc, bytes)?,
-        })
+        let mut held = Vec::with_capacity(alloc, bytes.len())?;
+        held.extend_from_slice(bytes)?;
+        Ok(Bytes { held })
     }
 
     /// How many bytes there are.
@@ -74,15 +67,11 @@ impl Bytes {
         self.held.as_slice()
     }
 
-    /// The bytes in their order. Those of a long list are handed out as they lie, which takes no memory; those of a
-    /// short one, which lie within it, are copied.
+    /// The bytes in their order, as they lie. It takes no memory.
     pub fn into_vec(self) -> Result<Vec<u8>, AllocError>
         ensures { IfOk result (λ bytes. bytes.items ≡ self) }
     {
-        match self.held.into_vec() {
-            Ok(bytes) => Ok(bytes),
-            Err(_) => Err(AllocError),
-        }
+        Ok(self.held)
     }
 
     /// Equal bytes.

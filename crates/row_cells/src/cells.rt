@@ -1,31 +1,33 @@
 // The cells of a row, which copies of it share.
 
-ghost use Rattle.std.specs.Prelude.{◌≡◌, ◌<◌, ◌++◌, ◌*◌, ◌∷◌, [], List, Some, length, IfOk, OnOk, OnErr, slice_get};
-ghost use Rattle.std.specs.List.{flat_map};
+ghost use Rattle.std.specs.Prelude.{◌≡◌, ◌++◌, ◌*◌, ◌∷◌, [], ℕ, List, length, map, option_and_then, slice_get, IfOk, OnOk, OnErr};
+ghost use Rattle.row_cells.specs.Cells.{cells_of, text_in};
 ghost use Rattle.row_cells.specs.Shared.{AreRowsOf, part_of};
-ghost use Rattle.row_cells.specs.declared.table.Cell.{Cell};
 
 use crate::list::Items;
+use crate::number::number_in;
 use crate::table::Cell;
+use crate::texts::Texts;
 use std::alloc::{AllocError, Global};
 use std::marker::Model;
 use std::sync::Arc;
 
-// The cells of rows of one width, one row behind the other.
+// The texts of rows of one width, one row behind the other.
 #[derive(Debug, Drop)]
 pub(crate) struct Sheet {
-    cells: Vec<Cell>,
-    width: usize,
+    texts: Texts,
+    width: u64,
 }
 
-/// The cells of a row in their order. Copies share them, and the rows of a file have one list of cells for all.
+/// The cells of a row in their order. There are their texts, of which a number is made where one is asked for. Copies
+/// share them, and the rows of a file have one list of texts for all.
 #[derive(Debug, Drop)]
 pub struct Cells {
     alloc: Global,
     // None is the empty list, which takes no memory.
     shared: Option<Arc<Sheet, Global>>,
-    // Which of the shared cells is the row's first.
-    first: usize,
+    // Which of the shared texts is that of the row's first cell.
+    first: u64,
 }
 
 impl Model for Cells {
@@ -38,23 +40,28 @@ impl Model for Cells {
     ghost view = { λ cells. row_at cells.shared cells.first };
 }
 
-// So many of these cells, from the first on, or as many as there are.
-fn part(cells: &[Cell], first: usize, count: usize) -> &[Cell]
-    ensures { result.now ≡ part_of cells.now first count }
+// How many texts a row has that begins at this one of a sheet.
+fn count_of(sheet: &Sheet, first: u64) -> u64
+    ensures { result ≡ length (part_of sheet.now.texts first sheet.now.width) }
 {
-    let rest = &cells[first.min(cells.len())..];
-    &rest[..count.min(rest.len())]
+    let rest = sheet.texts.len().saturating_sub(first);
+    rest.min(sheet.width)
 }
 
-// Equal cells, with room for one more.
-fn copied(alloc: Global, cells: &[Cell]) -> Result<Vec<Cell>, AllocError>
-    ensures { IfOk result (λ copy. copy.items ≡ cells.now) }
+// The text at a place of the row that begins at this one of a sheet, empty where the row has none.
+fn text_of(sheet: &Sheet, first: u64, place: u64) -> &[u8]
+    ensures { result.now
+        ≡ text_in (slice_get (cells_of (part_of sheet.now.texts first sheet.now.width)) place) }
 {
-    let mut copy = Vec::with_capacity(alloc, cells.len())?;
-    for cell in cells {
-        copy.push(cell.copy()?)?;
+    let all = sheet.texts.len();
+    let Some(at) = first.checked_add(place) else {
+        return &[];
+    };
+    if place < sheet.width && at < all {
+        sheet.texts.at(at)
+    } else {
+        &[]
     }
-    Ok(copy)
 }
 
 impl Cells {
@@ -69,25 +76,13 @@ impl Cells {
         }
     }
 
-    /// No cells, with room for so many.
-    pub fn with_room(alloc: Global, room: usize) -> Result<Cells, AllocError>
-        ensures { IfOk result (λ cells. cells ≡ []) }
-    {
-        let cells = Vec::with_capacity(alloc, room)?;
-        Ok(Cells {
-            alloc,
-            shared: Some(Arc::new(alloc, Sheet { cells, width: 0 })?),
-            first: 0,
-        })
-    }
-
-    /// The cells of a vector.
-    pub fn from_vec(alloc: Global, held: Vec<Cell>) -> Result<Cells, AllocError>
-        ensures { IfOk result (λ cells. cells ≡ held.items) }
+    /// The cells of texts.
+    pub fn from_texts(alloc: Global, texts: Texts) -> Result<Cells, AllocError>
+        ensures { IfOk result (λ cells. cells ≡ cells_of texts) }
     {
         let sheet = Sheet {
-            width: held.len(),
-            cells: held,
+            width: texts.len(),
+            texts,
         };
         Ok(Cells {
             alloc,
@@ -100,25 +95,37 @@ impl Cells {
     pub fn len(&self) -> u64
         ensures { result ≡ length self.now }
     {
-        self.as_slice().len() as u64
+        match &self.shared {
+            Some(sheet) => count_of(sheet, self.first),
+            None => 0,
+        }
     }
 
-    /// The cell at `place`, counted from 0.
-    pub fn at(&self, place: u64) -> &Cell
-        requires { place < length self.now }
-        ensures { slice_get self.now place ≡ Some result.now }
-    {
-        &self.as_slice()[place as usize]
-    }
-
-    /// The cells as a slice.
-    pub fn as_slice(&self) -> &[Cell]
-        ensures { result.now ≡ self.now }
+    /// The text of the cell at `place`, counted from 0; where there is none, it is empty.
+    pub fn text_at(&self, place: u64) -> &[u8]
+        ensures { result.now ≡ text_in (slice_get self.now place) }
     {
         match &self.shared {
-            Some(sheet) => part(&sheet.cells, self.first, sheet.width),
+            Some(sheet) => text_of(sheet, self.first, place),
             None => &[],
         }
+    }
+
+    /// The number of the cell at `place`, counted from 0, where there is one that has a number. It is made of the text.
+    pub fn number_at(&self, place: u64) -> Option<i64>
+        ensures { result ≡ option_and_then (λ cell. cell.num) (slice_get self.now place) }
+    {
+        number_in(self.text_at(place))
+    }
+
+    /// Appends the texts of the cells to others.
+    pub fn add_texts(&self, texts: &mut Texts) -> Result<(), AllocError>
+        ensures { OnOk result (cells_of texts.new ≡ cells_of texts.old ++ self.now) }
+    {
+        for place in 0..self.len() {
+            texts.push(self.text_at(place))?;
+        }
+        Ok(())
     }
 
     /// Appends a cell, which is dropped where memory is wanting. Cells that are shared are copied first.
@@ -126,40 +133,11 @@ impl Cells {
         ensures ok { OnOk result (self.new ≡ self.old ++ cell ∷ []) }
         ensures err { OnErr result (self.new ≡ self.old) }
     {
-        if let Some(shared) = &mut self.shared {
-            if let Some(sheet) = Arc::get_mut(shared) {
-                if self.first == 0 && sheet.width == sheet.cells.len() {
-                    sheet.cells.push(cell)?;
-                    sheet.width += 1;
-                    return Ok(());
-                }
-            }
-        }
-        let mut cells = copied(self.alloc, self.as_slice())?;
-        cells.push(cell)?;
-        *self = Cells::from_vec(self.alloc, cells)?;
+        let mut texts = Texts::new(self.alloc);
+        self.add_texts(&mut texts)?;
+        texts.push(cell.text.as_slice())?;
+        *self = Cells::from_texts(self.alloc, texts)?;
         Ok(())
-    }
-
-    /// The cells in their order. Where no copy shares them it takes no memory.
-    pub fn into_vec(self) -> Result<Vec<Cell>, AllocError>
-        ensures { IfOk result (λ cells. cells.items ≡ self) }
-    {
-        let Cells {
-            alloc,
-            shared,
-            first,
-        } = self;
-        let Some(shared) = shared else {
-            return Ok(Vec::new(alloc));
-        };
-        if first != 0 || shared.width != shared.cells.len() {
-            return copied(alloc, part(&shared.cells, first, shared.width));
-        }
-        match Arc::try_unwrap(shared) {
-            Ok(sheet) => Ok(sheet.cells),
-            Err(shared) => copied(alloc, &shared.cells),
-        }
     }
 
     /// Equal cells, which are shared. It takes no memory.
@@ -178,25 +156,26 @@ impl Cells {
     }
 }
 
-/// `count` rows of `width` cells each, which share these cells: row `i` has the `width` cells from `i * width` on. The
-/// only error is want of memory.
+/// `count` rows of `width` cells each, which share these texts: row `i` has those of the `width` texts from `i * width`
+/// on. The only error is want of memory.
 pub fn rows_over(
     alloc: Global,
-    cells: Vec<Cell>,
-    width: usize,
+    texts: Texts,
+    width: u64,
     count: u64,
 ) -> Result<Items<Cells>, AllocError>
-    requires whole { length cells.items ≡ count * width }
-    ensures { (rows : List (List Cell)) → AreRowsOf rows width count cells.items
-        → IfOk result (λ made. made ≡ rows) }
+    requires whole { length texts ≡ count * width }
+    ensures { (rows : List (List (List ℕ))) → AreRowsOf rows width count texts
+        → IfOk result (λ made. made ≡ map cells_of rows) }
 {
-    let shared = Arc::new(alloc, Sheet { cells, width })?;
+    let all = texts.len();
+    let shared = Arc::new(alloc, Sheet { texts, width })?;
     let mut rows = Items::with_room(alloc, count as usize)?;
     for place in 0..count {
         rows.push(Cells {
             alloc,
             shared: Some(Arc::try_clone(&shared)?),
-            first: place as usize * width,
+            first: place * width,
         })?;
     }
     Ok(rows)

@@ -1,11 +1,12 @@
 // The columns of a table that are to hold numbers.
 
 ghost use Rattle.std.specs.Prelude.{◌≡◌, ◌<◌, ◌+◌, ℕ, List, Some, All, length, slice_get, OnOk, IfErr};
+ghost use Rattle.row_cells.specs.Cells.{cell_of};
 ghost use Rattle.row_cells.specs.Columns.{IsBad, IsFirstBad, is_bad};
 ghost use Rattle.row_cells.specs.declared.table.Cell.{Cell};
 
-use crate::number::spaces_before;
-use crate::table::{Cell, Table};
+use crate::number::{number_in, spaces_before};
+use crate::table::Table;
 
 /// The row, counted from 1, is the first whose cell isn't empty and has no number. A cell of spaces alone is empty.
 #[derive(Clone, Copy, Debug, PartialEq, Eq)]
@@ -13,11 +14,11 @@ pub struct BadNumber {
     pub row: u64,
 }
 
-// Whether a cell isn't empty and has no number.
-fn bad(cell: &Cell) -> bool
-    ensures { result ≡ is_bad cell.now }
+// Whether a text isn't empty and is no number.
+fn bad(text: &[u8]) -> bool
+    ensures { result ≡ is_bad (cell_of text.now) }
 {
-    spaces_before(cell.text.as_slice()) as u64 != cell.text.len() && cell.num.is_none()
+    spaces_before(text) != text.len() && number_in(text).is_none()
 }
 
 impl Table {
@@ -33,7 +34,7 @@ impl Table {
         let mut place = 0;
         while place < self.rows.len() {
             let row = self.rows.at(place);
-            if bad(row.at(column)) {
+            if bad(row.text_at(column)) {
                 return Err(BadNumber { row: place + 1 });
             }
             place += 1;

@@ -17,14 +17,14 @@ use Rattle.theta_pred.specs.Linear.{value_of}
 use Rattle.theta_pred.proofs.KeyMembers.{and_left, and_right}
 use Rattle.store_parts.specs.declared.places.Window.{Window}
 use Rattle.store_parts.specs.Accessed.{asked, interval_stand, interval_windows, is_admitted, is_admitted_at}
-use Rattle.store_parts.specs.Accessed.{is_at, number_at, numbered, point_windows, span_windows, stand_at}
+use Rattle.store_parts.specs.Accessed.{is_at, number_at, number_of_row, point_windows, span_windows, stand_at}
 use Rattle.store_parts.specs.Accessed.{value_stand, windows_at, windows_on, windows_with}
 use Rattle.store_parts.specs.Keyed.{is_key_true_at, value_at, least_at, greatest_at}
 use Rattle.store_parts.specs.Matches.{other_side}
 use Rattle.store_parts.specs.Places.{lies, lies_in, AreApart}
 use Rattle.store_parts.specs.Stands.{clamped, hash_of}
 use Rattle.store_parts.proofs.Keys.{band_at, no_key_at}
-use Rattle.store_parts.proofs.SameNumbers.{same_numbers, lies_self, AreOne}
+use Rattle.store_parts.proofs.SameNumbers.{same_rows, lies_self, AreOne}
 use Rattle.store_parts.proofs.Windows.{interval_lies, one_apart, or_left, stand_lies, windows_apart}
 
 -- ---- what an atom that is true says of the other value
@@ -195,15 +195,15 @@ range_law (Some (ranges.Interval interval)) side number t other is =
 
 -- the number of all equalities of a tuple of this side
 abbrev equal_at : Access → Side → Tuple → Option ℤ
-equal_at access side t = numbered side (pos 0) access.sames t.cells
+equal_at access side t = number_of_row side access.sames t.cells
 
 agree_at : (side : Side) (access : Access) (t other : Tuple) → is_admitted_at side access t other ≡ true
     → AreOne (equal_at access side t) (equal_at access (other_side side) other)
-agree_at R access t other is = same_numbers t.cells other.cells (pos 0) access.sames
+agree_at R access t other is = same_rows t.cells other.cells access.sames
     (and_left (agree_in_all (agreements access) t.cells other.cells)
     (is_in_range (option_map reach_of access.range) t.cells other.cells) is)
 agree_at S access t other is =
-    let one = same_numbers other.cells t.cells (pos 0) access.sames
+    let one = same_rows other.cells t.cells access.sames
     (and_left (agree_in_all (agreements access) other.cells t.cells)
     (is_in_range (option_map reach_of access.range) other.cells t.cells) is) in
     (one.0, one.2, one.1)

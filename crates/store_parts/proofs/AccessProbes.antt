@@ -5,7 +5,6 @@ use Rattle.std.proofs.Common.{◌≡◌, ℕ, ◌+◌, ◌<◌, ℤ, Bool, true,
 use Rattle.std.proofs.Common.{◌∷◌, ◌++◌, length, take, refl, sym, ap, subst, ◌∙◌, arith, append-nil, slice_get, Result}
 use Rattle.std.proofs.Common.{Ok, Err}
 use Rattle.std.specs.Prelude.{IfOk, map, filter, count_by}
-use Rattle.smallvec.specs.SmallVec.{SmallVec}
 use Rattle.std.specs.List.{All}
 use Rattle.std.proofs.lemmas.List.{length-map}
 use Rattle.std.proofs.lemmas.List.Elements.{All-cons, All-nil, filter-append}
@@ -51,7 +50,7 @@ asked_below access t others =
 -- the index's clause, at the numbers of the stored tuples
 pub asked_given : {V E : Type 0} (r : Result V E) (items : V
     → List ℕ) (access : Access) (t : Tuple) (others : List Tuple)
-    (entries : List (ℤ × SmallVec ℕ)) (windows : List Window) → windows ≡ asked access t
+    (entries : List (ℤ × List ℕ)) (windows : List Window) → windows ≡ asked access t
     → IsMapOf (numbers_at access (other_side t.side) others) entries
     → IfOk r (λ x. (values : List (Option ℤ)) → IsMapOf values entries
     → items x ≡ places_by (lies_in windows) 0 values)
@@ -87,16 +86,6 @@ pub admitted_of_stands : (access : Access) (t : Tuple) (others : List Tuple)
     → filter (is_admitted access t) (filter (does_stand access t) others) ≡ filter (is_admitted access t) others
 admitted_of_stands access t others =
     filter_of_filter (is_admitted access t) (does_stand access t) (admitted_stands access t) others
-
-module _ (access : Access) (t : Tuple) (others : List Tuple) where
-  -- the places that are kept of those that the index gave are of the tuples that agree
-  pub those_kept : (seen : List Tuple) (given looked kept : List ℕ)
-      → seen ≡ others → looked ≡ given → at_places others given ≡ filter (does_stand access t) others
-      → at_places seen kept ≡ filter (is_admitted access t) (at_places seen looked)
-      → at_places seen kept ≡ filter (is_admitted access t) others
-  those_kept seen given looked kept same read stood sifted =
-      let stands = ap (λ (xs : List Tuple). at_places xs looked) same ∙ ap (at_places others) read ∙ stood in
-      sifted ∙ ap (filter (is_admitted access t)) stands ∙ admitted_of_stands access t others
 
 -- ---- one more place
 
@@ -179,7 +168,7 @@ admitted_match theta access t (x ∷ xs) law =
 
 -- where a store has an access, its index is one of the numbers that the access gives to its tuples
 pub index_of_access : (key : Option KeyAtom) (stored : Option Access) (access : Access) (side : Side)
-    (ts : List Tuple) (entries : List (ℤ × SmallVec ℕ)) → stored ≡ Some access
+    (ts : List Tuple) (entries : List (ℤ × List ℕ)) → stored ≡ Some access
     → IsMapOf (map (indexed_at key stored side) ts) entries → IsMapOf (numbers_at access side ts) entries
 index_of_access key stored access side ts entries is indexed =
     let P : Option Access → Type 0 = λ o. IsMapOf (map (indexed_at key o side) ts) entries in subst P is indexed

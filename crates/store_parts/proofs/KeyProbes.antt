@@ -3,7 +3,6 @@ use Rattle.std.proofs.Common.{◌≡◌, ℕ, ◌+◌, ◌<◌, ◌≤◌, ℤ, 
 use Rattle.std.proofs.Common.{◌∷◌, ◌++◌, length, take, drop, refl, sym, ap, subst, ◌∙◌, arith, slice_get, Result, Ok}
 use Rattle.std.proofs.Common.{Err, inl, inr, suc}
 use Rattle.std.specs.Prelude.{IfOk}
-use Rattle.smallvec.specs.SmallVec.{SmallVec}
 use Rattle.std.specs.Prelude.{map, filter, count_by}
 use Rattle.std.specs.List.{sum_by, All, Contains, cons_option}
 use Rattle.std.proofs.lemmas.Bool.{false≢true}
@@ -245,7 +244,7 @@ band_places key t others v = places_between (least_at t.side key v) (greatest_at
 
 -- the index's clause, at the values of the stored tuples
 pub band_given : {V E : Type 0} (r : Result V E) (items : V
-    → List ℕ) (key : KeyAtom) (t : Tuple) (others : List Tuple) (entries : List (ℤ × SmallVec ℕ)) (w v : ℤ)
+    → List ℕ) (key : KeyAtom) (t : Tuple) (others : List Tuple) (entries : List (ℤ × List ℕ)) (w v : ℤ)
     (from to : Option ℤ)
     → w ≡ v → from ≡ least_at t.side key w → to ≡ greatest_at t.side key w
     → IsMapOf (values_at key (other_side t.side) others) entries

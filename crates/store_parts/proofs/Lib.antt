@@ -12,3 +12,4 @@ pub mod KeyProbes
 pub mod Sides
 pub mod Windows
 pub mod Worked
+pub mod ExactNumbers

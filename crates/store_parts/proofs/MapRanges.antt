@@ -8,16 +8,13 @@ use Rattle.std.proofs.Common.{◌<◌}
 use Rattle.std.proofs.Math.Seq.{drop-cons}
 use Rattle.std.specs.Prelude.{All, IfSome, filter, flat_map, sum_by, int_lt, int_le}
 use Rattle.std.specs.Map.{keys_of}
-use Rattle.smallvec.specs.SmallVec.{SmallVec}
 use Rattle.std.specs.declared.cmp.Ordering.TheVariants.{Less, Equal, Greater}
 use Rattle.std.specs.Ordering.{nat_cmp, int_cmp, is_gt, is_lt, is_le}
 use Rattle.std.specs.List.Sorted.{IsPermutation, IsSorted}
 use Rattle.std.specs.BTreeMap.Range.{range_contains, IsLeBy}
 use Rattle.std.proofs.lemmas.Grind.{common_steps}
 use Rattle.std.proofs.lemmas.List.Sums.{sum_by-cons, sum_by-append}
-use Rattle.std.proofs.lemmas.List.Sorted.{sum_by-IsPermutation, length_permutation, IsNonDecreasingBy-from_sort}
-use Rattle.std.specs.List.{refill}
-use Rattle.std.proofs.lemmas.List.{take_all, take-append-le}
+use Rattle.std.proofs.lemmas.List.Sorted.{sum_by-IsPermutation, IsNonDecreasingBy-from_sort}
 use Rattle.std.proofs.lemmas.List.Elements.{All-cons, All-head, All-nil, All-tail, filter_agree}
 use Rattle.std.proofs.lemmas.Bool.{false≢true}
 use Rattle.std.proofs.lemmas.Bool.Decides.{nat_tests}
@@ -82,14 +79,14 @@ each_only : (b : Bool) (f : ℕ → ℕ) (ps : List ℕ) → sum_by (λ p. cond 
 each_only true f ps = refl
 each_only false f ps = zeros ps
 
-sum_kept : (f : ℕ → ℕ) (b : Bool) (e : ℤ × SmallVec ℕ) (es : List (ℤ × SmallVec ℕ))
-    → sum_by f (flat_map (λ e. e.1.items) (cond b (e ∷ es) es)) ≡ cond b (sum_by f e.1.items) 0
-    + sum_by f (flat_map (λ e. e.1.items) es)
-sum_kept f true e es = sum_by-append f e.1.items (flat_map (λ e. e.1.items) es)
+sum_kept : (f : ℕ → ℕ) (b : Bool) (e : ℤ × List ℕ) (es : List (ℤ × List ℕ))
+    → sum_by f (flat_map (λ e. e.1) (cond b (e ∷ es) es)) ≡ cond b (sum_by f e.1) 0
+    + sum_by f (flat_map (λ e. e.1) es)
+sum_kept f true e es = sum_by-append f e.1 (flat_map (λ e. e.1) es)
 sum_kept f false e es = omega arith
 
-sum_of_range : (test : ℤ → Bool) (f : ℕ → ℕ) (es : List (ℤ × SmallVec ℕ))
-    → sum_by f (flat_map (λ e. e.1.items) (filter (λ e. test e.0) es)) ≡ sum_by (at_each (only test f)) es
+sum_of_range : (test : ℤ → Bool) (f : ℕ → ℕ) (es : List (ℤ × List ℕ))
+    → sum_by f (flat_map (λ e. e.1) (filter (λ e. test e.0) es)) ≡ sum_by (at_each (only test f)) es
 sum_of_range test f [] = refl
 sum_of_range test f (e ∷ es) =
     omega (
@@ -97,7 +94,7 @@ sum_of_range test f (e ∷ es) =
       sum_kept f (test e.0) e (filter (λ e. test e.0) es),
       sum_of_range test f es,
       sum_by-cons (at_each (only test f)) e es,
-      each_only (test e.0) f e.1.items,
+      each_only (test e.0) f e.1,
     )
 
 sum_cond : (f : ℕ → ℕ) (b : Bool) (n : ℕ) (ps : List ℕ) → sum_by f (cond b (n ∷ ps) ps) ≡ cond b (f n) 0 + sum_by f ps
@@ -134,7 +131,7 @@ places_rise test low n (v ∷ values) le =
     (places_rise test n (n + 1) values (omega arith)) (places_rise test low (n + 1) values (omega arith))
 
 -- what was gathered with these sums, in order, is the places of what passes the test
-sorted_by : (test : Option ℤ → Bool) → test None ≡ false → (values : List (Option ℤ)) (entries : List (ℤ × SmallVec ℕ))
+sorted_by : (test : Option ℤ → Bool) → test None ≡ false → (values : List (Option ℤ)) (entries : List (ℤ × List ℕ))
     (found sorted : List ℕ) → IsMapOf values entries
     → ((f : ℕ → ℕ) → sum_by f found ≡ sum_by (at_each (only (λ v. test (Some v)) f)) entries)
     → IsPermutation found sorted → IsSorted nat_cmp sorted → sorted ≡ places_by test 0 values
@@ -147,7 +144,7 @@ sorted_by test none values entries found sorted indexed sums moved in_order =
     ∙ sum_of_places test none f 0 values)
 
 -- what was gathered, in order, is the places between the bounds
-pub sorted_places : (from to : Option ℤ) (values : List (Option ℤ)) (entries : List (ℤ × SmallVec ℕ))
+pub sorted_places : (from to : Option ℤ) (values : List (Option ℤ)) (entries : List (ℤ × List ℕ))
     (found sorted : List ℕ)
     → IsMapOf values entries → found ≡ gathered from to entries
     → IsPermutation found sorted → IsSorted nat_cmp sorted → sorted ≡ places_between from to 0 values
@@ -157,12 +154,12 @@ sorted_places from to values entries found sorted indexed is moved in_order =
 
 -- ---- several windows
 
-sum_of_none : (f : ℕ → ℕ) (es : List (ℤ × SmallVec ℕ)) → sum_by (at_each (only (λ _. false) f)) es ≡ 0
+sum_of_none : (f : ℕ → ℕ) (es : List (ℤ × List ℕ)) → sum_by (at_each (only (λ _. false) f)) es ≡ 0
 sum_of_none f [] = refl
 sum_of_none f (e ∷ es) = omega (
   arith,
   sum_by-cons (at_each (only (λ _. false) f)) e es,
-  each_only false f e.1.items,
+  each_only false f e.1,
   sum_of_none f es,
 )
 
@@ -170,7 +167,7 @@ either : (a b : Bool) (n : ℕ) → (a ≡ true → b ≡ false) → cond a n 0 
 either true b n apart = ap (λ c. n + cond c n 0) (apart refl) ∙ omega arith
 either false b n apart = omega arith
 
-sum_of_either : (p q : ℤ → Bool) → ((v : ℤ) → p v ≡ true → q v ≡ false) → (f : ℕ → ℕ) (es : List (ℤ × SmallVec ℕ))
+sum_of_either : (p q : ℤ → Bool) → ((v : ℤ) → p v ≡ true → q v ≡ false) → (f : ℕ → ℕ) (es : List (ℤ × List ℕ))
     → sum_by (at_each (only p f)) es + sum_by (at_each (only q f)) es ≡ sum_by (at_each (only (λ v. p v || q v) f)) es
 sum_of_either p q apart f [] = refl
 sum_of_either p q apart f (e ∷ es) =
@@ -180,13 +177,13 @@ sum_of_either p q apart f (e ∷ es) =
       sum_by-cons (at_each (only p f)) e es,
       sum_by-cons (at_each (only q f)) e es,
       sum_by-cons (at_each (only (λ v. p v || q v) f)) e es,
-      each_only (p e.0) f e.1.items,
-      each_only (q e.0) f e.1.items,
-      each_only (p e.0 || q e.0) f e.1.items,
-      either (p e.0) (q e.0) (sum_by f e.1.items) (apart e.0),
+      each_only (p e.0) f e.1,
+      each_only (q e.0) f e.1,
+      each_only (p e.0 || q e.0) f e.1,
+      either (p e.0) (q e.0) (sum_by f e.1) (apart e.0),
     )
 
-sum_of_windows : (windows : List Window) → AreApart windows → (f : ℕ → ℕ) (entries : List (ℤ × SmallVec ℕ))
+sum_of_windows : (windows : List Window) → AreApart windows → (f : ℕ → ℕ) (entries : List (ℤ × List ℕ))
     → sum_by f (gathered_in windows entries) ≡ sum_by (at_each (only (λ v. lies_in windows (Some v)) f)) entries
 sum_of_windows [] apart f entries = sym (sum_of_none f entries)
 sum_of_windows (window ∷ windows) apart f entries =
@@ -203,33 +200,26 @@ none_lies_in (window ∷ windows) = none_lies_in windows
 
 -- what was gathered of windows that are apart, in order, is the places of what lies in them
 pub sorted_windows : (windows : List Window) → AreApart windows → (values : List (Option ℤ))
-    (entries : List (ℤ × SmallVec ℕ)) (found sorted : List ℕ)
+    (entries : List (ℤ × List ℕ)) (found sorted : List ℕ)
     → IsMapOf values entries → found ≡ gathered_in windows entries
     → IsPermutation found sorted → IsSorted nat_cmp sorted → sorted ≡ places_by (lies_in windows) 0 values
 sorted_windows windows apart values entries found sorted indexed is moved in_order =
     sorted_by (lies_in windows) (none_lies_in windows) values entries found sorted indexed
     (λ f. ap (sum_by f) is ∙ sum_of_windows windows apart f entries) moved in_order
 
--- a vector that was sorted in its own memory has the sorted elements
-pub refilled : (found sorted : List ℕ) → IsPermutation found sorted → refill (length found) found sorted ≡ sorted
-refilled found sorted moved =
-    let same = length_permutation found sorted moved in
-    take-append-le (length found) sorted (drop (length sorted) found) (omega (arith, same))
-    ∙ take_all (length found) sorted (omega (arith, same))
-
 -- ---- what a range of a tree gives
 
 -- what a tree gives for its range between two bounds is what is gathered between them
-pub gathered-range : (from to : Option ℤ) (entries : List (ℤ × SmallVec ℕ))
-    → flat_map (λ e. e.1.items) (filter (λ e. range_contains int_cmp (start_of from) (end_of to) e.0) entries)
+pub gathered-range : (from to : Option ℤ) (entries : List (ℤ × List ℕ))
+    → flat_map (λ e. e.1) (filter (λ e. range_contains int_cmp (start_of from) (end_of to) e.0) entries)
     ≡ gathered from to entries
 gathered-range from to entries =
-    ap (flat_map (λ e. e.1.items)) (filter_agree (λ e. range_contains int_cmp (start_of from) (end_of to) e.0)
+    ap (flat_map (λ e. e.1)) (filter_agree (λ e. range_contains int_cmp (start_of from) (end_of to) e.0)
     (λ e. lies from to (Some e.0)) (λ e. in_range from to e.0) entries)
 
 -- once no entry is left, what was taken is all
-pub all_taken : (left : List (ℤ × SmallVec ℕ)) (taken all : List ℕ) → left ≡ []
-    → taken ++ flat_map (λ e. e.1.items) left ≡ all → taken ≡ all
+pub all_taken : (left : List (ℤ × List ℕ)) (taken all : List ℕ) → left ≡ []
+    → taken ++ flat_map (λ e. e.1) left ≡ all → taken ≡ all
 all_taken left taken all none is = grind (arith, common_steps)
 
 -- ---- bounds that run backwards
@@ -243,10 +233,10 @@ lies-backward (Some a) None v back = absurd (false≢true back)
 lies-backward (Some a) (Some b) v back = none_lies a b v back
 
 -- between bounds that run backwards nothing is gathered
-pub gathered-backward : (from to : Option ℤ) (entries : List (ℤ × SmallVec ℕ)) → is_backward from to ≡ true
+pub gathered-backward : (from to : Option ℤ) (entries : List (ℤ × List ℕ)) → is_backward from to ≡ true
     → gathered from to entries ≡ []
 gathered-backward from to entries back =
-    ap (flat_map (λ e. e.1.items)) (filter_none (λ e. lies from to (Some e.0)) (λ e. lies-backward from to e.0 back)
+    ap (flat_map (λ e. e.1)) (filter_none (λ e. lies from to (Some e.0)) (λ e. lies-backward from to e.0 back)
     entries)
 
 -- ---- a window beyond all values
@@ -264,11 +254,11 @@ up_to_last : (y v : ℤ) → is_lt (int_cmp y v) ≡ false → int_le v y ≡ tr
 up_to_last y v le = sym (high_is y v) ∙ ap not le
 
 -- an entry's value lies between these two
-abbrev lies_between : ℤ → ℤ → ℤ × SmallVec ℕ → Type 0
+abbrev lies_between : ℤ → ℤ → ℤ × List ℕ → Type 0
 lies_between first last e = lies_at (Some e.0) (record { from = first; to = last }) ≡ true
 
 -- all values lie between two keys where none is below the one or above the other
-pub within_ends : (first last : ℤ) (entries : List (ℤ × SmallVec ℕ)) → All (IsLeBy int_cmp first) (keys_of entries)
+pub within_ends : (first last : ℤ) (entries : List (ℤ × List ℕ)) → All (IsLeBy int_cmp first) (keys_of entries)
     → All (λ q. is_lt (int_cmp last q) ≡ false) (keys_of entries)
     → AreWithin (record { from = first; to = last }) entries
 within_ends first last [] from to = All-nil (lies_between first last)
@@ -283,24 +273,24 @@ clear_at : (a b c d v : ℤ) → (int_le a v && int_le v b) ≡ true → (int_lt
     → (int_le c v && int_le v d) ≡ false
 clear_at a b c d v within clear = grind (arith, ints)
 
-none_gathered : (ends window : Window) (entries : List (ℤ × SmallVec ℕ)) → AreWithin ends entries
+none_gathered : (ends window : Window) (entries : List (ℤ × List ℕ)) → AreWithin ends entries
     → are_clear window ends ≡ true → gathered_at window entries ≡ []
 none_gathered ends window [] all clear = refl
 none_gathered ends window (e ∷ es) all clear =
     let kept = filter (λ e. lies (Some window.from) (Some window.to) (Some e.0)) es in
-    ap (λ b. flat_map (λ e. e.1.items) (cond b (e ∷ kept) kept))
+    ap (λ b. flat_map (λ e. e.1) (cond b (e ∷ kept) kept))
     (clear_at ends.from ends.to window.from window.to e.0 (All-head (lies_between ends.from ends.to) e es all) clear)
     ∙ none_gathered ends window es (All-tail (lies_between ends.from ends.to) e es all) clear
 
 -- a window beyond all values gives no places
-pub gathered-beyond : (ends : Option Window) (window : Window) (entries : List (ℤ × SmallVec ℕ))
+pub gathered-beyond : (ends : Option Window) (window : Window) (entries : List (ℤ × List ℕ))
     → IfSome ends (λ ends. AreWithin ends entries) → is_beyond ends window ≡ true → gathered_at window entries ≡ []
 gathered-beyond None window entries all beyond = absurd (false≢true beyond)
 gathered-beyond (Some ends) window entries all beyond = none_gathered ends window entries all beyond
 
 -- ---- windows one after another
 
-module _ (windows : List Window) (i : ℕ) (d : Window) (entries : List (ℤ × SmallVec ℕ)) where
+module _ (windows : List Window) (i : ℕ) (d : Window) (entries : List (ℤ × List ℕ)) where
   -- one window more was gathered
   pub one_window_more : (found more new whole : List ℕ) → i < length windows
       → found ++ gathered_in (drop i windows) entries ≡ whole
@@ -315,7 +305,7 @@ module _ (windows : List Window) (i : ℕ) (d : Window) (entries : List (ℤ × 
       ∙ so_far
 
 -- a window was passed over that gives no places
-pub no_window_more : (windows : List Window) (i : ℕ) (d : Window) (entries : List (ℤ × SmallVec ℕ))
+pub no_window_more : (windows : List Window) (i : ℕ) (d : Window) (entries : List (ℤ × List ℕ))
     (found whole : List ℕ) → i < length windows → found ++ gathered_in (drop i windows) entries ≡ whole
     → gathered_at (get_or windows i d) entries ≡ []
     → found ++ gathered_in (drop (i + 1) windows) entries ≡ whole

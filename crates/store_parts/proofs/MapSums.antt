@@ -2,7 +2,6 @@
 use Rattle.std.proofs.Common.{◌≡◌, ℕ, ◌+◌, ℤ, Bool, true, false, cond, Option, Some, None, List, [], ◌∷◌, ◌++◌, length}
 use Rattle.std.proofs.Common.{refl, sym, ap, ◌∙◌, arith, unwrap_or}
 use Rattle.std.specs.Prelude.{sum_by}
-use Rattle.smallvec.specs.SmallVec.{SmallVec}
 use Rattle.std.specs.declared.cmp.Ordering.{Ordering}
 use Rattle.std.specs.declared.cmp.Ordering.TheVariants.{Less, Equal, Greater}
 use Rattle.std.specs.Ordering.{int_cmp, is_eq, match_ordering}
@@ -122,14 +121,14 @@ finds_only v q hit = sym (exact_signed v q (equal_from_test (int_cmp v q) hit))
     equal_from_test Equal e = refl
     equal_from_test Greater e = absurd (cc)
 
-no_more : (f : ℤ × ℕ → ℕ) (q : ℤ) (p w : SmallVec ℕ) → w.items ≡ p.items → at_each f (q, w) ≡ at_each f (q, p) + 0
+no_more : (f : ℤ × ℕ → ℕ) (q : ℤ) (p w : List ℕ) → w ≡ p → at_each f (q, w) ≡ at_each f (q, p) + 0
 no_more f q p w same = omega (arith, ap (λ xs. sum_by (λ x. f (q, x)) xs) same)
 
-one_more : (f : ℤ × ℕ → ℕ) (q v : ℤ) (n : ℕ) (p w : SmallVec ℕ) → w.items ≡ p.items ++ n ∷ [] → q ≡ v
+one_more : (f : ℤ × ℕ → ℕ) (q v : ℤ) (n : ℕ) (p w : List ℕ) → w ≡ p ++ n ∷ [] → q ≡ v
     → at_each f (q, w) ≡ at_each f (q, p) + f (v, n)
 one_more f q v n p w pushed same =
     let whole = ap (λ xs. sum_by (λ x. f (q, x)) xs) pushed in
-    let parts = sum_by-append (λ x. f (q, x)) p.items (n ∷ []) in
+    let parts = sum_by-append (λ x. f (q, x)) p (n ∷ []) in
     let last = sum_by-cons (λ x. f (q, x)) n [] in
     let at_v = ap (λ z. f (z, n)) same in
     omega (arith, whole, parts, last, at_v)
@@ -146,28 +145,28 @@ value_more f values v n at_end =
 -- ---- one entry written, where there may have been none
 
 -- the entries after w was put at v, where found stood there: if nothing did, a sum over them has one term more
-abbrev pub IsPut : ℤ → SmallVec ℕ → Option (SmallVec ℕ) → List (ℤ × SmallVec ℕ) → List (ℤ × SmallVec ℕ) → Type 0
+abbrev pub IsPut : ℤ → List ℕ → Option (List ℕ) → List (ℤ × List ℕ) → List (ℤ × List ℕ) → Type 0
 IsPut v w found old new = MatchOption found
-    ((F : ℤ × SmallVec ℕ → ℕ) → sum_by F new ≡ F (v, w) + sum_by F old)
+    ((F : ℤ × List ℕ → ℕ) → sum_by F new ≡ F (v, w) + sum_by F old)
     (λ _. new ≡ set_value (is_at (int_cmp v)) old w)
 
 -- in a hashed map a new entry may stand anywhere
-pub hashed_put : (v : ℤ) (w : SmallVec ℕ) (found : Option (SmallVec ℕ)) (old new : List (ℤ × SmallVec ℕ))
+pub hashed_put : (v : ℤ) (w : List ℕ) (found : Option (List ℕ)) (old new : List (ℤ × List ℕ))
     → MatchOption found (IsPermutation ((v, w) ∷ old) new) (λ _. new ≡ set_value (is_at (int_cmp v)) old w)
     → IsPut v w found old new
 hashed_put v w None old new put = λ F. sum_by-IsPermutation F ((v, w) ∷ old) new put ∙ sum_by-cons F (v, w) old
 hashed_put v w (Some p) old new put = put
 
 -- in an ordered map it stands in its order
-pub ordered_put : (v : ℤ) (w : SmallVec ℕ) (found : Option (SmallVec ℕ)) (old new : List (ℤ × SmallVec ℕ))
+pub ordered_put : (v : ℤ) (w : List ℕ) (found : Option (List ℕ)) (old new : List (ℤ × List ℕ))
     → IsStrictlySortedBy int_cmp (keys_of old) → lookup (is_at (int_cmp v)) old ≡ found
     → new ≡ insert_entry int_cmp old v w → IsPut v w found old new
 ordered_put v w None old new sorted is put =
     λ F. ap (sum_by F) put ∙ sum-insert_entry int_cmp F v w old is
 ordered_put v w (Some p) old new sorted is put = put ∙ inserted_is_set int_cmp_total v p w old sorted is
 
-module _ (F : ℤ × SmallVec ℕ → ℕ) (v : ℤ) (empty w : SmallVec ℕ) (more : ℕ) where
-  sum-put : (old new : List (ℤ × SmallVec ℕ)) (found : Option (SmallVec ℕ))
+module _ (F : ℤ × List ℕ → ℕ) (v : ℤ) (empty w : List ℕ) (more : ℕ) where
+  sum-put : (old new : List (ℤ × List ℕ)) (found : Option (List ℕ))
       → lookup (is_at (int_cmp v)) old ≡ found → IsPut v w found old new → F (v, empty) ≡ 0
       → ((q : ℤ) → q ≡ v → F (q, w) ≡ F (q, unwrap_or found empty) + more) → sum_by F new ≡ sum_by F old + more
   sum-put old new None is put zero grows =
@@ -176,14 +175,14 @@ module _ (F : ℤ × SmallVec ℕ → ℕ) (v : ℤ) (empty w : SmallVec ℕ) (m
   sum-put old new (Some p) is put zero grows =
       ap (sum_by F) put ∙ sum-set_value (is_at (int_cmp v)) F p w more old (λ q hit. grows q (finds_only v q hit)) is
 
-at_empty : (f : ℤ × ℕ → ℕ) (v : ℤ) (empty : SmallVec ℕ) → empty.items ≡ [] → at_each f (v, empty) ≡ 0
+at_empty : (f : ℤ × ℕ → ℕ) (v : ℤ) (empty : List ℕ) → empty ≡ [] → at_each f (v, empty) ≡ 0
 at_empty f v empty none = ap (λ xs. sum_by (λ x. f (v, x)) xs) none
 
-module _ (values : List (Option ℤ)) (v : ℤ) (old new : List (ℤ × SmallVec ℕ)) (empty w : SmallVec ℕ)
-    (found : Option (SmallVec ℕ)) where
+module _ (values : List (Option ℤ)) (v : ℤ) (old new : List (ℤ × List ℕ)) (empty w : List ℕ)
+    (found : Option (List ℕ)) where
   -- an entry put with the places that it had, none where there was no entry, leaves the map's values as they are
-  pub map_put_kept : lookup (is_at (int_cmp v)) old ≡ found → IsPut v w found old new → empty.items ≡ []
-      → w.items ≡ (unwrap_or found empty).items
+  pub map_put_kept : lookup (is_at (int_cmp v)) old ≡ found → IsPut v w found old new → empty ≡ []
+      → w ≡ (unwrap_or found empty)
       → IsMapOf values old → IsMapOf values new
   map_put_kept is put none same h = record {
     sums = λ f.
@@ -192,11 +191,11 @@ module _ (values : List (Option ℤ)) (v : ℤ) (old new : List (ℤ × SmallVec
         omega (arith, set, h.sums f);
   }
 
-module _ (values : List (Option ℤ)) (v : ℤ) (n : ℕ) (old new : List (ℤ × SmallVec ℕ)) (empty w : SmallVec ℕ)
-    (found : Option (SmallVec ℕ)) where
+module _ (values : List (Option ℤ)) (v : ℤ) (n : ℕ) (old new : List (ℤ × List ℕ)) (empty w : List ℕ)
+    (found : Option (List ℕ)) where
   -- once it is put with the next place behind these, the map has that place's value as one more
-  pub map_put_pushed : lookup (is_at (int_cmp v)) old ≡ found → IsPut v w found old new → empty.items ≡ []
-      → w.items ≡ (unwrap_or found empty).items ++ n ∷ []
+  pub map_put_pushed : lookup (is_at (int_cmp v)) old ≡ found → IsPut v w found old new → empty ≡ []
+      → w ≡ (unwrap_or found empty) ++ n ∷ []
       → length values ≡ n → IsMapOf values old → IsMapOf (values ++ Some v ∷ []) new
   map_put_pushed is put none pushed at_end h = record {
     sums = λ f.
@@ -208,7 +207,7 @@ module _ (values : List (Option ℤ)) (v : ℤ) (n : ℕ) (old new : List (ℤ �
 -- ---- a tuple with no value
 
 -- a tuple that has no value needs no entry: the map as it is has the values of all, with this one
-pub map_no_value : (value : Option ℤ) (values : List (Option ℤ)) (entries : List (ℤ × SmallVec ℕ))
+pub map_no_value : (value : Option ℤ) (values : List (Option ℤ)) (entries : List (ℤ × List ℕ))
     → ((v : ℤ) → value ≡ Some v → ⊥) → IsMapOf values entries → IsMapOf (values ++ value ∷ []) entries
 map_no_value None values entries never h = record {
   sums = λ f.

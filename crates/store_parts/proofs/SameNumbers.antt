@@ -18,7 +18,7 @@ use Rattle.theta_pred.specs.Keys.{is_between}
 use Rattle.theta_pred.specs.Linear.{value_of}
 use Rattle.theta_pred.specs.TextAtoms.{text_at}
 use Rattle.theta_pred.proofs.KeyMembers.{and_left, and_right}
-use Rattle.store_parts.specs.Accessed.{value_on, mixed, numbered, number_of, own_value}
+use Rattle.store_parts.specs.Accessed.{value_on, mixed, numbered, number_of, number_of_row, own_value}
 use Rattle.store_parts.specs.Places.{lies}
 
 -- ---- rows that agree have one number
@@ -62,8 +62,8 @@ same_value r s (Texts atom) is =
 same_value r s (Sums pair) is = apart_one pair.gap (value_of pair.r_sum.parts r) (value_of pair.s_sum.parts s) is
 same_value r s (Alone it) is = passed_one r s it.side it.test.formula is
 
--- rows that agree have one number
-pub same_numbers : (r s : List Cell) (number : ℤ) (sames : List Same) → agree_in_all (map agreement_of sames) r s ≡ true
+-- so they have where more values follow
+same_numbers : (r s : List Cell) (number : ℤ) (sames : List Same) → agree_in_all (map agreement_of sames) r s ≡ true
     → AreOne (numbered R number sames r) (numbered S number sames s)
 same_numbers r s number [] is = (number, refl, refl)
 same_numbers r s number (same ∷ sames) is =
@@ -75,3 +75,10 @@ same_numbers r s number (same ∷ sames) is =
       ap (option_and_then (λ v. numbered R (mixed number v) sames r)) one.1 ∙ rest.1,
       ap (option_and_then (λ v. numbered S (mixed number v) sames s)) one.2 ∙ rest.2,
     )
+
+-- rows that agree have one number
+pub same_rows : (r s : List Cell) (sames : List Same) → agree_in_all (map agreement_of sames) r s ≡ true
+    → AreOne (number_of_row R sames r) (number_of_row S sames s)
+same_rows r s [] is = (pos 0, refl, refl)
+same_rows r s (same ∷ []) is = same_value r s same (and_left (agrees r s (agreement_of same)) true is)
+same_rows r s (same ∷ other ∷ sames) is = same_numbers r s (pos 0) (same ∷ other ∷ sames) is

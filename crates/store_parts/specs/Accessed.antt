@@ -60,6 +60,12 @@ numbered side number [] row = Some number
 numbered side number (same ∷ sames) row =
     option_and_then (λ value. numbered side (mixed number value) sames row) (value_on side same row)
 
+-- the number of all of a row's values: one value is its own
+abbrev pub number_of_row : Side → List Same → List Cell → Option ℤ
+number_of_row side [] row = Some (pos 0)
+number_of_row side (same ∷ []) row = value_on side same row
+number_of_row side (same ∷ other ∷ sames) row = numbered side (pos 0) (same ∷ other ∷ sames) row
+
 -- ---- by what numbers tuples stand in the index, and between which a tuple asks for others
 
 -- where the interval of a tuple of this side begins, beside the value of the lower bound's sum
@@ -92,7 +98,7 @@ stand_at (Some (ranges.Interval interval)) side number t =
 -- by what number a tuple of this side stands in the index; none where it stands nowhere
 abbrev pub number_at : Access → Side → Tuple → Option ℤ
 number_at access side t =
-    option_and_then (λ number. stand_at access.range side number t) (numbered side (pos 0) access.sames t.cells)
+    option_and_then (λ number. stand_at access.range side number t) (number_of_row side access.sames t.cells)
 
 -- from the least to the greatest value with which an atom is true, beside a value of this side
 abbrev pub span_windows : ℤ → KeyAtom → Side → Option ℤ → List Window
@@ -127,7 +133,7 @@ windows_with range side (Some number) t = windows_at range side number t
 
 -- between which numbers a tuple of this side asks for those of the other
 abbrev pub windows_on : Access → Side → Tuple → List Window
-windows_on access side t = windows_with access.range side (numbered side (pos 0) access.sames t.cells) t
+windows_on access side t = windows_with access.range side (number_of_row side access.sames t.cells) t
 
 -- between which numbers a tuple that probes asks for others
 abbrev pub asked : Access → Tuple → List Window
@@ -143,6 +149,15 @@ is_admitted_at S access t other = do_agree (terms_of access) other.cells t.cells
 -- whether a tuple that probes and a stored one do
 abbrev pub is_admitted : Access → Tuple → Tuple → Bool
 is_admitted access t other = is_admitted_at t.side access t other
+
+-- whether tuples of one number agree in all, without being compared: the number is the one value in which rows agree,
+-- and no hash
+abbrev pub is_exact_by : List Same → Option Range → Bool
+is_exact_by (Sums pair ∷ []) None = true
+is_exact_by _ _ = false
+
+abbrev pub is_exact : Access → Bool
+is_exact access = is_exact_by access.sames access.range
 
 -- an access that a store has is the predicate's own
 abbrev pub IsOwnAccess : Meaning → Option Access → Type 0

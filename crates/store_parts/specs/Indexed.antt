@@ -1,6 +1,5 @@
 -- The index of a side's tuples.
 use Rattle.std.specs.Prelude.{ℕ, ℤ, Option, Some, None, List, map, All}
-use Rattle.smallvec.specs.SmallVec.{SmallVec}
 use Rattle.row_cells.specs.declared.table.Side.{Side}
 use Rattle.epoch_tags.specs.declared.tuple.Tuple.{Tuple}
 use Rattle.theta_pred.specs.declared.atom.KeyAtom.{KeyAtom}
@@ -21,6 +20,6 @@ numbers_at access side ts = map (number_at access side) ts
 
 -- the index of a side's tuples, which have the key's columns
 pub record IsIndexed (key : Option KeyAtom) (access : Option Access) (side : Side) (ts : List Tuple)
-    (entries : List (ℤ × SmallVec ℕ)) : Type 0 where
+    (entries : List (ℤ × List ℕ)) : Type 0 where
   pub index : IsMapOf (map (indexed_at key access side) ts) entries
   pub columns : All (FitsKeyAt key side) ts

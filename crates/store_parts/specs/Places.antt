@@ -3,7 +3,6 @@ use Rattle.std.specs.Prelude.{◌≡◌, ℕ, ◌+◌, ℤ, int_lt, Bool, true, 
 use Rattle.std.specs.Prelude.{sum_by}
 use Rattle.std.specs.Prelude.{All, ◌||◌, filter, flat_map, if◌then◌else◌, ⊤}
 use Rattle.std.specs.List.{list_any}
-use Rattle.smallvec.specs.SmallVec.{SmallVec}
 use Rattle.std.specs.declared.ops.Bound.{Bound}
 use Rattle.std.specs.declared.ops.Bound.TheVariants.{Included, Unbounded}
 use Rattle.theta_pred.specs.Keys.{is_from, is_up_to}
@@ -18,11 +17,11 @@ entries_from n (None ∷ values) = entries_from (n + 1) values
 entries_from n (Some v ∷ values) = (v, n) ∷ entries_from (n + 1) values
 
 -- the term of a value with all its places
-abbrev pub at_each : (ℤ × ℕ → ℕ) → ℤ × SmallVec ℕ → ℕ
-at_each f e = sum_by (λ p. f (e.0, p)) e.1.items
+abbrev pub at_each : (ℤ × ℕ → ℕ) → ℤ × List ℕ → ℕ
+at_each f e = sum_by (λ p. f (e.0, p)) e.1
 
 -- the map has these values with their places, each once, in some order
-pub record IsMapOf (values : List (Option ℤ)) (entries : List (ℤ × SmallVec ℕ)) : Type 0 where
+pub record IsMapOf (values : List (Option ℤ)) (entries : List (ℤ × List ℕ)) : Type 0 where
   pub sums : (f : ℤ × ℕ → ℕ) → sum_by (at_each f) entries ≡ sum_by f (entries_from 0 values)
 
 -- whether there is a value, and it lies between two bounds
@@ -37,15 +36,15 @@ places_by test n (v ∷ values) =
     if test v then n ∷ places_by test (n + 1) values else places_by test (n + 1) values
 
 -- the places of the entries whose values pass a test, entry by entry
-abbrev pub gathered_by : (Option ℤ → Bool) → List (ℤ × SmallVec ℕ) → List ℕ
-gathered_by test entries = flat_map (λ e. e.1.items) (filter (λ e. test (Some e.0)) entries)
+abbrev pub gathered_by : (Option ℤ → Bool) → List (ℤ × List ℕ) → List ℕ
+gathered_by test entries = flat_map (λ e. e.1) (filter (λ e. test (Some e.0)) entries)
 
 -- the places, counted from n, of the values between two bounds, rising
 abbrev pub places_between : Option ℤ → Option ℤ → ℕ → List (Option ℤ) → List ℕ
 places_between from to n values = places_by (lies from to) n values
 
 -- the places of the entries whose values lie between two bounds, entry by entry
-abbrev pub gathered : Option ℤ → Option ℤ → List (ℤ × SmallVec ℕ) → List ℕ
+abbrev pub gathered : Option ℤ → Option ℤ → List (ℤ × List ℕ) → List ℕ
 gathered from to entries = gathered_by (lies from to) entries
 
 -- whether there is a value, and it lies in the window
@@ -63,7 +62,7 @@ AreApart (window ∷ windows) =
     ((v : Option ℤ) → lies_at v window ≡ true → lies_in windows v ≡ false) × AreApart windows
 
 -- all values lie in the window
-abbrev pub AreWithin : Window → List (ℤ × SmallVec ℕ) → Type 0
+abbrev pub AreWithin : Window → List (ℤ × List ℕ) → Type 0
 AreWithin window entries = All (λ e. lies_at (Some e.0) window ≡ true) entries
 
 -- whether a window ends before another begins, or begins where that has ended
@@ -76,15 +75,15 @@ is_beyond None window = false
 is_beyond (Some ends) window = are_clear window ends
 
 -- the places of the entries whose values lie in the window, entry by entry
-abbrev pub gathered_at : Window → List (ℤ × SmallVec ℕ) → List ℕ
+abbrev pub gathered_at : Window → List (ℤ × List ℕ) → List ℕ
 gathered_at window entries = gathered (Some window.from) (Some window.to) entries
 
 -- the places of the entries whose values lie in these windows, window by window
-abbrev pub gathered_in : List Window → List (ℤ × SmallVec ℕ) → List ℕ
+abbrev pub gathered_in : List Window → List (ℤ × List ℕ) → List ℕ
 gathered_in windows entries = flat_map (λ window. gathered_at window entries) windows
 
 -- the entries of a map of either kind
-abbrev pub entries_of : Map → List (ℤ × SmallVec ℕ)
+abbrev pub entries_of : Map → List (ℤ × List ℕ)
 entries_of (Ordered map) = map.entries
 entries_of (Hashed map) = map.entries
 

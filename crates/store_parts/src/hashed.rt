@@ -4,7 +4,7 @@ ghost use Rattle.std.specs.Prelude.{◌≡◌, ℤ, Option, Some, List, [], ◌�
 ghost use Rattle.store_parts.specs.Places.{gathered, lies, IsMapOf};
 
 use crate::places::{Found, Places};
-use smallvec::SmallVec;
+use row_cells::Few;
 use std::alloc::{AllocError, Global};
 use std::collections::HashMap;
 
@@ -23,7 +23,7 @@ pub(crate) fn add_hashed(
     ensures err { (values : List (Option ℤ)) → IsMapOf values map.old.entries
         → OnErr result (IsMapOf values map.new.entries) }
 {
-    let places = map.entry(value)?.or_insert(SmallVec::new(alloc));
+    let places = map.entry(value)?.or_insert(Few::new(alloc));
     places.push(place)?;
     Ok(())
 }
@@ -57,12 +57,12 @@ fn only_value(from: Option<i128>, to: Option<i128>) -> Option<i128>
 // The places of a value.
 fn gather_one(alloc: Global, map: &HashedMap, value: i128) -> Result<Found, AllocError>
     ensures { IfOk result (λ found.
-        found.items ≡ gathered (Some value) (Some value) map.now.entries) }
+        found ≡ gathered (Some value) (Some value) map.now.entries) }
 {
     let _ = map.len();
     match map.get(&value) {
-        Some(places) => SmallVec::from_slice(alloc, places.as_slice()),
-        None => Ok(SmallVec::new(alloc)),
+        Some(places) => Few::from_slice(alloc, places.as_slice()),
+        None => Ok(Few::new(alloc)),
     }
 }
 
@@ -73,12 +73,12 @@ fn gather_each(
     from: Option<i128>,
     to: Option<i128>,
 ) -> Result<Found, AllocError>
-    ensures { IfOk result (λ found. found.items ≡ gathered from to map.now.entries) }
+    ensures { IfOk result (λ found. found ≡ gathered from to map.now.entries) }
 {
-    let mut found = SmallVec::new(alloc);
+    let mut found = Few::new(alloc);
     for entry in map.iter() {
         if lies(from, to, *entry.0) {
-            found.extend_from_slice(entry.1.as_slice())?;
+            found.append(entry.1.as_slice())?;
         }
     }
     Ok(found)
@@ -91,7 +91,7 @@ pub(crate) fn gather_hashed(
     from: Option<i128>,
     to: Option<i128>,
 ) -> Result<Found, AllocError>
-    ensures { IfOk result (λ found. found.items ≡ gathered from to map.now.entries) }
+    ensures { IfOk result (λ found. found ≡ gathered from to map.now.entries) }
 {
     match only_value(from, to) {
         Some(value) => gather_one(alloc, map, value),

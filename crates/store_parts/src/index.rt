@@ -2,6 +2,8 @@
 
 ghost use Rattle.std.specs.Prelude.{◌≡◌, ℤ, Option, Some, List, [], ◌∷◌, ◌++◌, length, IfOk, OnOk, OnErr};
 ghost use Rattle.std.specs.Prelude.{IfSome};
+ghost use Rattle.std.specs.List.Sorted.{IsPermutation, IsSorted};
+ghost use Rattle.std.specs.Ordering.{nat_cmp};
 ghost use Rattle.store_parts.specs.Places.{
   entries_of,
   gathered,
@@ -20,7 +22,7 @@ use crate::band::is_equality;
 use crate::hashed::{HashedMap, add_hashed, gather_hashed};
 use crate::ordered::{OrderedMap, add_ordered, ends_of, gather_ordered};
 use crate::places::{Found, Window};
-use smallvec::SmallVec;
+use row_cells::Few;
 use std::alloc::{AllocError, Global};
 use std::collections::{BTreeMap, HashMap};
 use std::marker::Model;
@@ -53,7 +55,7 @@ impl Map {
         from: Option<i128>,
         to: Option<i128>,
     ) -> Result<Found, AllocError>
-        ensures { IfOk result (λ found. found.items ≡ gathered from to (entries_of self.now)) }
+        ensures { IfOk result (λ found. found ≡ gathered from to (entries_of self.now)) }
     {
         match self {
             Map::Ordered(map) => gather_ordered(alloc, map, from, to),
@@ -62,7 +64,7 @@ impl Map {
     }
 
     fn gather_at(&self, alloc: Global, window: Window) -> Result<Found, AllocError>
-        ensures { IfOk result (λ found. found.items ≡ gathered_at window (entries_of self.now)) }
+        ensures { IfOk result (λ found. found ≡ gathered_at window (entries_of self.now)) }
     {
         self.gather(alloc, Some(window.from), Some(window.to))
     }
@@ -96,10 +98,10 @@ fn gather_among(
     window: Window,
 ) -> Result<Found, AllocError>
     requires { IfSome ends (λ ends. AreWithin ends (entries_of map.now)) }
-    ensures { IfOk result (λ found. found.items ≡ gathered_at window (entries_of map.now)) }
+    ensures { IfOk result (λ found. found ≡ gathered_at window (entries_of map.now)) }
 {
     if is_beyond(ends, window) {
-        return Ok(SmallVec::new(alloc));
+        return Ok(Few::new(alloc));
     }
     map.gather_at(alloc, window)
 }
@@ -107,15 +109,28 @@ fn gather_among(
 // The places of the values in these windows, window by window. A tuple asks for the intervals of each class of
 // lengths, and few classes have any: where nothing is told apart by a hash, those at both ends are passed over.
 fn gather_in(alloc: Global, map: &Map, windows: &[Window]) -> Result<Found, AllocError>
-    ensures { IfOk result (λ found. found.items ≡ gathered_in windows.now (entries_of map.now)) }
+    ensures { IfOk result (λ found. found ≡ gathered_in windows.now (entries_of map.now)) }
 {
-    let mut found = SmallVec::new(alloc);
+    let mut found = Few::new(alloc);
     let ends = map.ends();
     for window in windows {
         let more = gather_among(alloc, map, ends, *window)?;
-        found.extend_from_slice(more.as_slice())?;
+        found.append(more.as_slice())?;
     }
     Ok(found)
+}
+
+// The same places, rising.
+fn in_order(found: Found) -> Result<Found, AllocError>
+    ensures same { IfOk result (IsPermutation found) }
+    ensures rising { IfOk result (IsSorted nat_cmp) }
+{
+    if found.len() < 2 {
+        return Ok(found);
+    }
+    let mut places = found.into_vec()?;
+    places.sort_unstable();
+    Ok(Few::from_vec(places))
 }
 
 // An index, seen as its values with their places, in no order that counts.
@@ -126,9 +141,8 @@ pub(crate) struct Index {
 
 impl Model for Index {
     ghost use Rattle.std.specs.Prelude.{ℕ, ℤ, List};
-    ghost use Rattle.smallvec.specs.SmallVec.{SmallVec};
 
-    ghost Value = { List (ℤ × SmallVec ℕ) };
+    ghost Value = { List (ℤ × List ℕ) };
 
     ghost use Rattle.store_parts.specs.Places.{entries_of};
 
@@ -191,11 +205,11 @@ impl Index {
     ) -> Result<Found, AllocError>
         ensures { IfOk result (λ found.
             (values : List (Option ℤ)) → IsMapOf values self.now
-            → found.items ≡ places_between from to 0 values) }
+            → found ≡ places_between from to 0 values) }
     {
-        let mut found = self.map.gather(alloc, from, to)?;
-        found.sort_unstable();
-        Ok(found)
+        let found = self.map.gather(alloc, from, to)?;
+        let rising = in_order(found)?;
+        Ok(rising)
     }
 
     // The places of the values in these windows, rising.
@@ -203,11 +217,11 @@ impl Index {
         requires { AreApart windows.now }
         ensures { IfOk result (λ found.
             (values : List (Option ℤ)) → IsMapOf values self.now
-            → found.items ≡ places_by (lies_in windows.now) 0 values) }
+            → found ≡ places_by (lies_in windows.now) 0 values) }
     {
-        let mut found = gather_in(alloc, &self.map, windows)?;
-        found.sort_unstable();
-        Ok(found)
+        let found = gather_in(alloc, &self.map, windows)?;
+        let rising = in_order(found)?;
+        Ok(rising)
     }
 }
 

@@ -6,7 +6,7 @@ ghost use Rattle.theta_pred.specs.Sizes.{IsAtMost};
 
 use crate::places::Windows;
 use crate::value_windows::{point_window, stand};
-use smallvec::SmallVec;
+use row_cells::Few;
 use std::alloc::{AllocError, Global};
 
 // The greatest length that there is, 2^70.
@@ -96,7 +96,7 @@ fn add_windows(
     requires most { IsMost most }
     requires x { IsAtMost (2 ^ 69) x }
     ensures { OnOk result
-        (windows.new.items ≡ windows.old.items ++ windows_from left hash class most x) }
+        (windows.new ≡ windows.old ++ windows_from left hash class most x) }
 {
     windows.push(point_window(hash, class, most, x))?;
     if left == 0 {
@@ -109,9 +109,9 @@ fn add_windows(
 pub(crate) fn windows_of(alloc: Global, hash: i128, x: i128) -> Result<Windows, AllocError>
     requires hash { IsAtMost (2 ^ 48) hash }
     requires x { IsAtMost (2 ^ 69) x }
-    ensures { IfOk result (λ windows. windows.items ≡ windows_of hash x) }
+    ensures { IfOk result (λ windows. windows ≡ windows_of hash x) }
 {
-    let mut windows = SmallVec::with_capacity(alloc, MORE_CLASSES as usize + 1)?;
+    let mut windows = Few::from_vec(Vec::with_capacity(alloc, MORE_CLASSES as usize + 1)?);
     add_windows(&mut windows, MORE_CLASSES, hash, 0, 0, x)?;
     Ok(windows)
 }

@@ -3,7 +3,7 @@
 ghost use Rattle.std.specs.Prelude.{◌≡◌, ◌+◌, ◌*◌, ◌%◌, ◌^◌, option_map, pos, IfSome, Some};
 ghost use Rattle.theta_pred.specs.Keys.{is_between};
 ghost use Rattle.theta_pred.specs.Sizes.{IsAtMost};
-ghost use Rattle.store_parts.specs.Accessed.{is_admitted, number_from, number_of, numbered, own_value, value_on};
+ghost use Rattle.store_parts.specs.Accessed.{is_admitted, is_exact, number_from, number_of, number_of_row, numbered, own_value, value_on};
 ghost use Rattle.theta_pred.specs.Accesses.{
   agree_in_all,
   agreement_of,
@@ -23,17 +23,6 @@ use epoch_tags::Tuple;
 use row_cells::{Cells, Side};
 use theta_pred::{Access, Alone, Range, Same};
 
-// The text of a row in a column, empty where it has no such column.
-fn text_at(row: &Cells, column: u64) -> &[u8]
-    ensures { result.now ≡ text_at column row.now }
-{
-    if column < row.len() {
-        row.at(column).text.as_slice()
-    } else {
-        &[]
-    }
-}
-
 // The number of a text. It is the text's polynomial at a prime, modulo 2^64.
 fn number_of(text: &[u8]) -> u64
     ensures { result ≡ number_of text.now }
@@ -51,7 +40,7 @@ fn number_of(text: &[u8]) -> u64
 fn text_number(row: &Cells, column: u64) -> i128
     ensures { result ≡ pos (number_of (text_at column row.now)) }
 {
-    i128::from(number_of(text_at(row, column)))
+    i128::from(number_of(row.text_at(column)))
 }
 
 // The value of a row of this side in a test of rows of one side: none where it is a row of that side and fails.
@@ -85,18 +74,39 @@ fn value_on(same: &Same, side: Side, row: &Cells) -> Option<i128>
     }
 }
 
-// The number of a tuple of this side, of all its values in which rows agree.
-pub(crate) fn number(access: &Access, side: Side, tuple: &Tuple) -> Option<i128>
-    ensures { result ≡ numbered side (pos 0) access.now.sames tuple.now.cells }
+// The number of several values of a row of this side.
+fn numbered(sames: &[Same], side: Side, row: &Cells) -> Option<i128>
+    ensures { result ≡ numbered side (pos 0) sames.now row.now }
 {
     let mut number = 0i128;
-    for same in access.sames.as_slice() {
-        let Some(value) = value_on(same, side, &tuple.cells) else {
+    for same in sames {
+        let Some(value) = value_on(same, side, row) else {
             return None;
         };
         number = number.wrapping_mul(1099511628211).wrapping_add(value);
     }
     Some(number)
+}
+
+// The number of a tuple of this side, of all its values in which rows agree.
+pub(crate) fn number(access: &Access, side: Side, tuple: &Tuple) -> Option<i128>
+    ensures { result ≡ number_of_row side access.now.sames tuple.now.cells }
+{
+    match access.sames.as_slice() {
+        [] => Some(0),
+        [same] => value_on(same, side, &tuple.cells),
+        sames => numbered(sames, side, &tuple.cells),
+    }
+}
+
+// Whether tuples of one number agree in all.
+pub(crate) fn is_exact(access: &Access) -> bool
+    ensures { result ≡ is_exact access.now }
+{
+    match (access.sames.as_slice(), &access.range) {
+        ([Same::Sums(_)], None) => true,
+        _ => false,
+    }
 }
 
 // Whether two sums are so much apart.
@@ -127,7 +137,7 @@ fn agrees(same: &Same, r: &Cells, s: &Cells) -> bool
     ensures { result ≡ agrees r.now s.now (agreement_of same.now) }
 {
     match same {
-        Same::Texts(atom) => text_at(r, atom.r) == text_at(s, atom.s),
+        Same::Texts(atom) => r.text_at(atom.r) == s.text_at(atom.s),
         Same::Sums(pair) => are_apart(pair.gap, pair.r_sum.value(r), pair.s_sum.value(s)),
         Same::Alone(alone) => passes(alone, r, s),
     }

@@ -5,7 +5,7 @@ ghost use Rattle.std.specs.Prelude.{IfSome};
 ghost use Rattle.store_parts.specs.Places.{end_of, gathered, is_backward, start_of, AreWithin, IsMapOf};
 
 use crate::places::{Found, Places, Window};
-use smallvec::SmallVec;
+use row_cells::Few;
 use std::alloc::{AllocError, Global};
 use std::collections::BTreeMap;
 use std::ops::Bound;
@@ -53,7 +53,7 @@ pub(crate) fn add_ordered(
     ensures err { (values : List (Option ℤ)) → IsMapOf values map.old.entries
         → OnErr result (IsMapOf values map.new.entries) }
 {
-    let places = map.entry(value)?.or_insert(SmallVec::new(alloc));
+    let places = map.entry(value)?.or_insert(Few::new(alloc));
     places.push(place)?;
     Ok(())
 }
@@ -81,14 +81,14 @@ pub(crate) fn gather_ordered(
     from: Option<i128>,
     to: Option<i128>,
 ) -> Result<Found, AllocError>
-    ensures { IfOk result (λ found. found.items ≡ gathered from to map.now.entries) }
+    ensures { IfOk result (λ found. found ≡ gathered from to map.now.entries) }
 {
-    let mut found = SmallVec::new(alloc);
+    let mut found = Few::new(alloc);
     if is_backward(from, to) {
         return Ok(found);
     }
     for entry in map.range((start_of(from), end_of(to))) {
-        found.extend_from_slice(entry.1.as_slice())?;
+        found.append(entry.1.as_slice())?;
     }
     Ok(found)
 }

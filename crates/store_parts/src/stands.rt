@@ -25,19 +25,18 @@ use crate::value_windows::{
     clamped, hash_of, high_at, interval_windows, low_at, only, span_windows, stand,
 };
 use epoch_tags::Tuple;
-use row_cells::Side;
-use smallvec::SmallVec;
+use row_cells::{Few, Side};
 use std::alloc::{AllocError, Global};
 use theta_pred::{Access, Interval, KeyAtom, Range};
 
 // The same, where there is a point.
 fn point_windows(alloc: Global, hash: i128, value: Option<i128>) -> Result<Windows, AllocError>
     requires hash { IsAtMost (2 ^ 48) hash }
-    ensures { IfOk result (λ windows. windows.items ≡ point_windows hash value) }
+    ensures { IfOk result (λ windows. windows ≡ point_windows hash value) }
 {
     match value {
         Some(value) => windows_of(alloc, hash, clamped(value)),
-        None => Ok(SmallVec::new(alloc)),
+        None => Ok(Few::new(alloc)),
     }
 }
 
@@ -168,7 +167,7 @@ fn windows_at(
     number: i128,
     tuple: &Tuple,
 ) -> Result<Windows, AllocError>
-    ensures { IfOk result (λ windows. windows.items ≡ windows_at range.now side number tuple.now) }
+    ensures { IfOk result (λ windows. windows ≡ windows_at range.now side number tuple.now) }
 {
     match range {
         None => only(
@@ -206,10 +205,10 @@ fn windows_at(
 
 // Between which numbers a tuple that probes asks for others.
 pub(crate) fn asked(alloc: Global, access: &Access, tuple: &Tuple) -> Result<Windows, AllocError>
-    ensures { IfOk result (λ windows. windows.items ≡ asked access.now tuple.now) }
+    ensures { IfOk result (λ windows. windows ≡ asked access.now tuple.now) }
 {
     match number(access, tuple.side, tuple) {
         Some(number) => windows_at(alloc, &access.range, tuple.side, number, tuple),
-        None => Ok(SmallVec::new(alloc)),
+        None => Ok(Few::new(alloc)),
     }
 }

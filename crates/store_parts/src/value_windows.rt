@@ -8,8 +8,7 @@ ghost use Rattle.theta_pred.specs.Sizes.{IsAtMost};
 
 use crate::band::{greatest, least};
 use crate::places::{Window, Windows};
-use row_cells::Side;
-use smallvec::SmallVec;
+use row_cells::{Few, Side};
 use std::alloc::{AllocError, Global};
 use theta_pred::{Interval, KeyAtom};
 
@@ -160,9 +159,9 @@ pub(crate) fn high_at(atom: &KeyAtom, side: Side, value: i128) -> i128
 
 // One window.
 pub(crate) fn only(alloc: Global, window: Window) -> Result<Windows, AllocError>
-    ensures { IfOk result (λ windows. windows.items ≡ window ∷ []) }
+    ensures { IfOk result (λ windows. windows ≡ window ∷ []) }
 {
-    let mut windows = SmallVec::new(alloc);
+    let mut windows = Few::new(alloc);
     windows.push(window)?;
     Ok(windows)
 }
@@ -177,10 +176,10 @@ pub(crate) fn span_windows(
 ) -> Result<Windows, AllocError>
     requires hash { IsAtMost (2 ^ 48) hash }
     requires value { IfSome value (IsAtMost (2 ^ 68)) }
-    ensures { IfOk result (λ windows. windows.items ≡ span_windows hash atom.now side value) }
+    ensures { IfOk result (λ windows. windows ≡ span_windows hash atom.now side value) }
 {
     let Some(value) = value else {
-        return Ok(SmallVec::new(alloc));
+        return Ok(Few::new(alloc));
     };
     only(
         alloc,
@@ -222,10 +221,10 @@ pub(crate) fn interval_windows(
     requires lower { IfSome lower (IsAtMost (2 ^ 68)) }
     requires upper { IfSome upper (IsAtMost (2 ^ 68)) }
     ensures { IfOk result (λ windows.
-        windows.items ≡ interval_windows hash interval.now side lower upper) }
+        windows ≡ interval_windows hash interval.now side lower upper) }
 {
     match (lower, upper) {
         (Some(v), Some(w)) => only(alloc, known_window(hash, interval, side, v, w)),
-        _ => Ok(SmallVec::new(alloc)),
+        _ => Ok(Few::new(alloc)),
     }
 }

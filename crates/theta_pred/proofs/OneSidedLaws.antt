@@ -16,7 +16,8 @@ use Rattle.theta_pred.specs.Formula.{Formula, any, every, negation, num, band, t
 use Rattle.theta_pred.specs.Keys.{is_some_place, names_side}
 use Rattle.theta_pred.specs.Numeric.{number_places, place_if_on}
 use Rattle.theta_pred.specs.OneSided.{is_true_alone, names, some_names, text_names}
-use Rattle.theta_pred.specs.Sums.{cell_at, number_of, of_side, plus, signed_of, sum_of, text_in, text_of, with_sign}
+use Rattle.row_cells.specs.Cells.{text_in}
+use Rattle.theta_pred.specs.Sums.{cell_at, number_of, of_side, plus, signed_of, sum_of, text_of, with_sign}
 use Rattle.theta_pred.specs.Truth.{allows, compares, each_is_true, is_true, size_of, some_is_true}
 
 -- one of two that is not, where neither is

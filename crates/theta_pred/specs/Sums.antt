@@ -1,6 +1,7 @@
 -- The cells of columns, and the whole numbers that sums of them are.
 use Rattle.std.specs.Prelude.{ℕ, Bool, true, false, List, [], ◌∷◌, ℤ, pos, ◌+ℤ◌, neg_ℤ, Option, Some, None}
 use Rattle.std.specs.Prelude.{option_and_then, option_map, slice_get}
+use Rattle.row_cells.specs.Cells.{text_in}
 use Rattle.row_cells.specs.declared.table.Cell.{Cell}
 use Rattle.row_cells.specs.declared.table.Side.{Side}
 use Rattle.row_cells.specs.declared.table.Side.TheVariants.{R, S}
@@ -47,11 +48,6 @@ signed_of r s term = option_map (with_sign term.minus) (number_of r s term.numbe
 abbrev pub sum_of : List Cell → List Cell → List SignedTerm → Option ℤ
 sum_of r s [] = Some (pos 0)
 sum_of r s (term ∷ terms) = plus (signed_of r s term) (sum_of r s terms)
-
--- the text of a cell, empty where there is no cell
-abbrev pub text_in : Option Cell → List ℕ
-text_in (Some cell) = cell.text
-text_in None = []
 
 -- what a side of a test on texts stands for
 abbrev pub text_of : List Cell → List Cell → Text → List ℕ

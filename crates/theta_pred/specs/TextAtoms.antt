@@ -1,11 +1,11 @@
 -- The columns of an equality of a text of R and one of S, and the text of a column.
 use Rattle.std.specs.Prelude.{ℕ, List, Option, Some, None, slice_get}
+use Rattle.row_cells.specs.Cells.{text_in}
 use Rattle.row_cells.specs.declared.table.Cell.{Cell}
 use Rattle.row_cells.specs.declared.table.Side.{Side}
 use Rattle.row_cells.specs.declared.table.Side.TheVariants.{R, S}
 use Rattle.theta_pred.specs.declared.text_atom.TextAtom.{TextAtom}
 use Rattle.theta_pred.specs.declared.tree.Column.{Column}
-use Rattle.theta_pred.specs.Sums.{text_in}
 
 -- two places, where they are of different sides
 abbrev pub of_sides : Side → Side → ℕ → ℕ → Option TextAtom

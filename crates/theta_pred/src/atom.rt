@@ -24,10 +24,7 @@ impl Part {
         ensures value { result ≡ part_of self row.now }
         ensures small { IfSome result (IsAtMost (2 ^ 63)) }
     {
-        if self.column >= row.len() {
-            return None;
-        }
-        let value = i128::from(row.at(self.column).num?);
+        let value = i128::from(row.number_at(self.column)?);
         Some(if self.minus { -value } else { value })
     }
 }

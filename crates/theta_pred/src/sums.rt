@@ -1,30 +1,19 @@
 // The cells of columns, and the whole numbers that sums of them are.
 
-ghost use Rattle.std.specs.Prelude.{◌≡◌, ◌≤◌, ◌^◌, length, option_map, slice_get, IfSome};
-ghost use Rattle.theta_pred.specs.Sums.{cell_at, number_of, signed_of, sum_of, text_of};
+ghost use Rattle.std.specs.Prelude.{◌≡◌, ◌≤◌, ◌^◌, length, IfSome};
+ghost use Rattle.theta_pred.specs.Sums.{number_of, of_side, signed_of, sum_of, text_of};
 ghost use Rattle.theta_pred.specs.Sizes.{IsAtMost};
 
-use crate::tree::{Column, Number, SignedTerm, SignedTerms, Text};
-use row_cells::{Cell, Cells, Side};
+use crate::tree::{Number, SignedTerm, SignedTerms, Text};
+use row_cells::{Cells, Side};
 
-// The cell of a row at a place, where it has one.
-fn cell_in(row: &Cells, place: u64) -> Option<&Cell>
-    ensures { option_map (λ cell. cell.now) result ≡ slice_get row.now place }
+// The row of a side.
+fn row_of<'a>(side: Side, r: &'a Cells, s: &'a Cells) -> &'a Cells
+    ensures { result.now ≡ of_side r.now s.now side }
 {
-    if place < row.len() {
-        Some(row.at(place))
-    } else {
-        None
-    }
-}
-
-// The cell of a column, where its row has one.
-fn cell_of<'a>(column: Column, r: &'a Cells, s: &'a Cells) -> Option<&'a Cell>
-    ensures { option_map (λ cell. cell.now) result ≡ cell_at r.now s.now column }
-{
-    match column.side {
-        Side::R => cell_in(r, column.place),
-        Side::S => cell_in(s, column.place),
+    match side {
+        Side::R => r,
+        Side::S => s,
     }
 }
 
@@ -34,10 +23,7 @@ fn number(term: Number, r: &Cells, s: &Cells) -> Option<i64>
 {
     match term {
         Number::Given(value) => Some(value),
-        Number::Cell(column) => match cell_of(column, r, s) {
-            Some(cell) => cell.num,
-            None => None,
-        },
+        Number::Cell(column) => row_of(column.side, r, s).number_at(column.place),
     }
 }
 
@@ -69,9 +55,6 @@ pub(crate) fn text<'a>(side: &'a Text, r: &'a Cells, s: &'a Cells) -> &'a [u8]
 {
     match side {
         Text::Given(bytes) => bytes.as_slice(),
-        Text::Cell(column) => match cell_of(*column, r, s) {
-            Some(cell) => cell.text.as_slice(),
-            None => &[],
-        },
+        Text::Cell(column) => row_of(column.side, r, s).text_at(column.place),
     }
 }

@@ -39,8 +39,9 @@ fn same_tables(one: &Table, other: &Table) -> bool {
         && one.rows.len() == other.rows.len();
     for (a, b) in one.rows.as_slice().iter().zip(other.rows.as_slice().iter()) {
         same = same && a.len() == b.len();
-        for (c, d) in a.as_slice().iter().zip(b.as_slice().iter()) {
-            same = same && c.text.as_slice() == d.text.as_slice() && c.num == d.num;
+        for place in 0..a.len() {
+            same = same && a.text_at(place) == b.text_at(place);
+            same = same && a.number_at(place) == b.number_at(place);
         }
     }
     same

@@ -14,8 +14,8 @@ fn lines(alloc: Global, table: &Table) -> Result<Bytes, AllocError> {
     }
     for row in table.rows.as_slice() {
         text.append(b"\n")?;
-        for cell in row.as_slice() {
-            text.append(cell.text.as_slice())?;
+        for place in 0..row.len() {
+            text.append(row.text_at(place))?;
             text.append(b",")?;
         }
     }

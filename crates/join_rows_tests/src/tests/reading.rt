@@ -28,8 +28,8 @@ fn has(rt: &impl Abort, table: &Table, names: u64, name: &[u8], rows: u64, text:
 fn has_text(table: &Table, text: &[u8]) -> bool {
     let mut found = false;
     for row in table.rows.as_slice() {
-        for cell in row.as_slice() {
-            found = found || cell.text.as_slice() == text;
+        for place in 0..row.len() {
+            found = found || row.text_at(place) == text;
         }
     }
     found

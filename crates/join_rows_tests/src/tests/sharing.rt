@@ -16,13 +16,6 @@ fn copies_before(cells: &mut Cells, pushed: Cell) -> Result<(Cells, Cells), Allo
     Ok((first, second))
 }
 
-// How many cells two lists hand out, of which the first shares its own with the second.
-fn counts_of(first: Cells, second: Cells) -> Result<(usize, usize), AllocError> {
-    let shared = first.into_vec()?.len();
-    let alone = second.into_vec()?.len();
-    Ok((shared, alone))
-}
-
 fn one_and_two(alloc: Global) -> Result<Cells, AllocError> {
     let mut cells = Cells::new(alloc);
     cells.push(cell(alloc, b"1")?)?;
@@ -30,24 +23,23 @@ fn one_and_two(alloc: Global) -> Result<Cells, AllocError> {
     Ok(cells)
 }
 
-// How many cells the copies of a list have after a push, and hand out.
-fn copied(cells: &mut Cells, pushed: Cell) -> Result<(u64, u64, usize, usize), AllocError> {
-    let (first, second) = copies_before(cells, pushed)?;
-    let (of_first, of_second) = (first.len(), second.len());
-    let (shared, alone) = counts_of(first, second)?;
-    Ok((of_first, of_second, shared, alone))
+fn have_numbers(rt: &impl Abort, cells: &Cells, numbers: &[i64]) {
+    assert_eq!(rt; cells.len(), numbers.len() as u64);
+    for (place, number) in numbers.iter().enumerate() {
+        assert_eq!(rt; cells.number_at(place as u64), Some(*number));
+    }
+    assert_eq!(rt; cells.number_at(cells.len()), None);
+    assert_eq!(rt; cells.text_at(cells.len()), b"".as_slice());
 }
 
 #[test]
 fn a_push_leaves_the_copies(rt: HostRuntime) -> Result<(), Fail> {
     let alloc = rt.alloc();
     let mut cells = one_and_two(alloc)?;
-    assert_eq!(rt; copied(&mut cells, cell(alloc, b"3")?)?, (2, 2, 2, 2));
-    let whole = cells.into_vec()?;
-    assert_eq!(rt; whole.len(), 3);
-    for (i, held) in whole.iter().enumerate() {
-        assert_eq!(rt; held.num, Some(i as i64 + 1));
-    }
+    let (first, second) = copies_before(&mut cells, cell(alloc, b"3")?)?;
+    have_numbers(&rt, &first, &[1, 2]);
+    have_numbers(&rt, &second, &[1, 2]);
+    have_numbers(&rt, &cells, &[1, 2, 3]);
     Ok(())
 }
 
@@ -109,31 +101,24 @@ fn with_nines(alloc: Global, rows: Vec<Cells>) -> Result<Vec<Cells>, AllocError>
     Ok(all)
 }
 
-fn have_numbers(rt: &impl Abort, cells: &[Cell], numbers: &[i64]) {
-    assert_eq!(rt; cells.len(), numbers.len());
-    for (cell, number) in cells.iter().zip(numbers) {
-        assert_eq!(rt; cell.num, Some(*number));
-    }
-}
-
 #[test]
 fn a_push_to_a_row_of_a_file_leaves_the_others(rt: HostRuntime) -> Result<(), Fail> {
     let alloc = rt.alloc();
     let rows = with_nines(alloc, rows_of(alloc, b"a,b\n1,2\n3,4\n5,6\n")?)?;
     assert_eq!(rt; rows.len(), 3);
     for (row, numbers) in rows.iter().zip([[1, 2, 9], [3, 4, 9], [5, 6, 9]].iter()) {
-        have_numbers(&rt, row.as_slice(), numbers);
+        have_numbers(&rt, row, numbers);
     }
     Ok(())
 }
 
 #[test]
-fn a_row_of_a_file_hands_out_its_own_cells(rt: HostRuntime) -> Result<(), Fail> {
+fn a_row_of_a_file_has_its_own_cells(rt: HostRuntime) -> Result<(), Fail> {
     let alloc = rt.alloc();
     let rows = rows_of(alloc, b"a,b\n1,2\n3,4\n")?;
     assert_eq!(rt; rows.len(), 2);
-    for (row, numbers) in rows.into_iter().zip([[1, 2], [3, 4]].iter()) {
-        have_numbers(&rt, &row.into_vec()?, numbers);
+    for (row, numbers) in rows.iter().zip([[1, 2], [3, 4]].iter()) {
+        have_numbers(&rt, row, numbers);
     }
     Ok(())
 }

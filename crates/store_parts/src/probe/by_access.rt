@@ -12,13 +12,13 @@ ghost use Rattle.theta_pred.specs.Accesses.{access_of, terms_of};
 use crate::counted_looks::Looks;
 use crate::counted_steps::Steps;
 use crate::half::Half;
-use crate::numbers::is_admitted;
+use crate::numbers::{is_admitted, is_exact};
 use crate::places::Found;
 use crate::probe::Query;
 use crate::probe::found_pairs::{at, try_places};
 use crate::stands::asked;
 use epoch_tags::{Pairs, Tuple};
-use smallvec::SmallVec;
+use row_cells::Few;
 use std::alloc::{AllocError, Global};
 use std::sync::ledger::Ledger;
 use theta_pred::Access;
@@ -32,17 +32,40 @@ fn places_of_admitted(
     places: &[u64],
 ) -> Result<Found, AllocError>
     requires { All (λ place. place < length others.now) places.now }
-    ensures same { IfOk result (λ kept. at_places others.now kept.items
+    ensures same { IfOk result (λ kept. at_places others.now kept
         ≡ filter (is_admitted access.now tuple.now) (at_places others.now places.now)) }
-    ensures below { IfOk result (λ kept. All (λ place. place < length others.now) kept.items) }
+    ensures below { IfOk result (λ kept. All (λ place. place < length others.now) kept) }
 {
-    let mut kept = SmallVec::new(alloc);
+    let mut kept = Few::new(alloc);
     for place in places {
         if is_admitted(access, tuple, at(others, *place)) {
             kept.push(*place)?;
         }
     }
     Ok(kept)
+}
+
+// The same of all that stand where the tuple asks. They aren't compared where their number says that they agree.
+fn kept_places(
+    alloc: Global,
+    tuple: &Tuple,
+    others: &[Tuple],
+    access: &Access,
+    places: Found,
+) -> Result<Found, AllocError>
+    requires below { All (λ place. place < length others.now) places }
+    requires stands { at_places others.now places
+        ≡ filter (does_stand access.now tuple.now) others.now }
+    ensures same { IfOk result (λ kept. at_places others.now kept
+        ≡ filter (is_admitted access.now tuple.now) others.now) }
+    ensures below { IfOk result (λ kept. All (λ place. place < length others.now) kept) }
+{
+    if is_exact(access) {
+        return Ok(places);
+    }
+    let kept = places_of_admitted(alloc, tuple, others, access, places.as_slice());
+    drop(places);
+    kept
 }
 
 // The places, rising, of the stored tuples that stand where the tuple asks.
@@ -54,10 +77,10 @@ fn places_asked(
 ) -> Result<Found, AllocError>
     requires { IsMapOf
         (numbers_at access.now (other_side tuple.now.side) others.now.tuples) others.now.index }
-    ensures stands { IfOk result (λ places. at_places others.now.tuples places.items
+    ensures stands { IfOk result (λ places. at_places others.now.tuples places
         ≡ filter (does_stand access.now tuple.now) others.now.tuples) }
     ensures below { IfOk result (λ places.
-        All (λ place. place < length others.now.tuples) places.items) }
+        All (λ place. place < length others.now.tuples) places) }
 {
     let windows = asked(alloc, access, tuple)?;
     others.index.within(alloc, windows.as_slice())
@@ -96,6 +119,6 @@ pub(crate) fn seek_by<L: Ledger, M: Ledger>(
     let tuples = others.tuples.as_slice();
     let places = places_asked(alloc, query.tuple, others, access)?;
     looks.note(places.as_slice());
-    let kept = places_of_admitted(alloc, query.tuple, tuples, access, places.as_slice())?;
+    let kept = kept_places(alloc, query.tuple, tuples, access, places)?;
     try_places(query, tuples, kept.as_slice(), sure, found, steps)
 }

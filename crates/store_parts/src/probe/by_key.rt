@@ -15,8 +15,7 @@ use crate::places::Found;
 use crate::probe::Query;
 use crate::probe::found_pairs::{try_one, try_places};
 use epoch_tags::{Pairs, Tuple};
-use row_cells::Side;
-use smallvec::SmallVec;
+use row_cells::{Few, Side};
 use std::alloc::{AllocError, Global};
 use std::sync::ledger::Ledger;
 use theta_pred::KeyAtom;
@@ -30,13 +29,13 @@ fn candidates(
 ) -> Result<Found, AllocError>
     requires { IsMapOf
         (values_at key.now (other_side tuple.now.side) others.now.tuples) others.now.index }
-    ensures keyed { IfOk result (λ places. at_places others.now.tuples places.items
+    ensures keyed { IfOk result (λ places. at_places others.now.tuples places
         ≡ filter (is_key_true key.now tuple.now) others.now.tuples) }
     ensures below { IfOk result (λ places.
-        All (λ place. place < length others.now.tuples) places.items) }
+        All (λ place. place < length others.now.tuples) places) }
 {
     let Some(value) = value_of(key, tuple.side, tuple) else {
-        return Ok(SmallVec::new(alloc));
+        return Ok(Few::new(alloc));
     };
     others.index.between(
         alloc,

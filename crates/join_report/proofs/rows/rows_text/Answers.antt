@@ -10,13 +10,7 @@ pub loop-pair-preserved : goal.loop-pair-preserved
 loop-pair-preserved c =
     let rows_r = c.args.rows_r.now in
     let rows_s = c.args.rows_s.now in
-    rw (
-      row_lines-more rows_r rows_s c.args.pairs.now c.loop-pair.pair-index (record { i = 0; j = 0 }) (omega arith),
-      ← c.from.ensures,
-      ← c.from-in-loop-pair.ensures,
-      ← c.row_at-row_r.ensures,
-      ← c.row_at-row_s.ensures,
-    )
+    rw (row_lines-more rows_r rows_s c.args.pairs.now c.loop-pair.pair-index (record { i = 0; j = 0 }) (omega arith))
     (c.in_ok-write_row.ensures (row_lines rows_r rows_s (take c.loop-pair.pair-index c.args.pairs.now))
     c.loop-pair.invariant)
 

@@ -1,13 +1,12 @@
 use Rattle.std.proofs.Common.{◌≡◌, ◌∙◌, ◌++◌, ◌∷◌, length-append, [], ℕ, List, Bor, Some, ap, length, inl, inr}
-use Rattle.std.proofs.Common.{◌*◌, ◌<◌, arith, map, refl, sym}
+use Rattle.std.proofs.Common.{◌*◌, ◌<◌, arith, refl, sym}
 use Rattle.csv.specs.Reading.{strip_bom}
 use Rattle.csv.specs.Records.{fields_of}
-use Rattle.row_cells.specs.Cells.{cells_of}
 use Rattle.join_rows.specs.Records.{after_marks, records_of}
 use Rattle.join_rows.proofs.Counted.{records-begin}
 use Rattle.join_rows.proofs.Marks.{marks-gone}
 use Rattle.join_rows.proofs.Taken.{first_read, last_read, more_read, no_read}
-use Rattle.row_cells.proofs.SharedRows.{cells-are_rows, cells-counted, cells-more}
+use Rattle.row_cells.proofs.SharedRows.{cells-counted, texts-are_rows, texts-more}
 use Rattle.join_rows.proofs.Tables.{answers-good, answers-long, answers-narrow, answers-none, wide-more}
 use Rattle.join_rows.proofs.records.table_from.Goals as goal
 
@@ -39,7 +38,7 @@ rows-init c =
       at_z,
       [],
       rw c.in_ok-names.ensures reached,
-      c.new-cells.ensures.items,
+      c.new-texts.ensures,
       tt,
       refl,
       omega arith,
@@ -48,9 +47,9 @@ rows-init c =
 pub rows_over-requires : goal.rows_over-requires
 rows_over-requires c =
     let (t, ready, config, width, y, source, done, reached, held, wide, size, few) = c.rows.invariant in
-    let are = cells-are_rows (length c.rows.names) done c.rows.cells.items wide held in
+    let are = texts-are_rows (length c.rows.names) done c.rows.texts wide held in
     record {
-      whole = cells-counted (map cells_of done) (length c.rows.names) (length done) c.rows.cells.items are
+      whole = cells-counted done (length c.rows.names) (length done) c.rows.texts are
           ∙ ap (λ n. n * length c.rows.names) (sym size) ∙ ap (λ n. c.rows.count * n) (sym width);
     }
 
@@ -62,8 +61,8 @@ returns-in-Ok-false-read_byte_record c =
     let all = last_read (λ (s : Bor (List ℕ)). Some s.now) c.rows.reader c.read_byte_record-in-rows.new.self
     (fields_of c.read_byte_record-in-rows.new.row) (after_marks c.args.text.now) y (c.rows.names ∷ done)
     config source reached read in
-    let are = cells-are_rows (length c.rows.names) done c.rows.cells.items wide held in
-    let same = c.in_ok-rows-in-Ok-false-read_byte_record.ensures (map cells_of done)
+    let are = texts-are_rows (length c.rows.names) done c.rows.texts wide held in
+    let same = c.in_ok-rows-in-Ok-false-read_byte_record.ensures done
     (rw (width, size) are) in
     inr (answers-good (records_of c.args.text.now) c.rows.names done
     c.in_ok-rows-in-Ok-false-read_byte_record.rows all same wide few)
@@ -110,9 +109,9 @@ rows-preserved c =
       at_z,
       done ++ (fields_of c.read_byte_record-in-rows.new.row ∷ []),
       more,
-      c.in_ok-add_cells.ensures
-          ∙ ap (λ cells. cells ++ cells_of (fields_of c.read_byte_record-in-rows.new.row)) held
-          ∙ sym (cells-more done (fields_of c.read_byte_record-in-rows.new.row)),
+      c.in_ok-add_fields.ensures
+          ∙ ap (λ texts. texts ++ fields_of c.read_byte_record-in-rows.new.row) held
+          ∙ sym (texts-more done (fields_of c.read_byte_record-in-rows.new.row)),
       wide-more (length c.rows.names) done (fields_of c.read_byte_record-in-rows.new.row) wide
           (sym c.len.ensures ∙ c.if-len-width.false ∙ width),
       omega (arith, length-append done (fields_of c.read_byte_record-in-rows.new.row ∷ []), size),

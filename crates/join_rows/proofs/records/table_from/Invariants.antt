@@ -1,9 +1,9 @@
-use Rattle.std.proofs.Common.{◌≡◌, ◌-◌, ◌≤◌, ℕ, List, ◌∷◌, Some, length, map}
+use Rattle.std.proofs.Common.{◌≡◌, ◌-◌, ◌≤◌, ℕ, List, ◌∷◌, Some, length}
 use Rattle.std.specs.List.{flat_map}
 use Rattle.csv.specs.Reading.{Reached, Ready, default_config, source_of}
 use Rattle.csv.specs.declared.parser.State.TheVariants as st
 use Rattle.csv.specs.declared.reader.Trim.TheVariants as trim
-use Rattle.row_cells.specs.Cells.{AreWide, cells_of}
+use Rattle.row_cells.specs.Cells.{AreWide}
 use Rattle.join_rows.specs.Records.{after_marks}
 use Rattle.join_rows.proofs.records.table_from.Given as goal
 
@@ -13,7 +13,7 @@ invariant-rows l =
     × (y : List ℕ) × (source_of (λ s. Some s.now) l.reader ≡ Some y)
     × (done : List (List (List ℕ))) × Reached default_config st.StartRecord (after_marks l.fn.text) (l.names ∷ done)
     l.reader.state y
-    × (l.cells.items ≡ flat_map (λ row. row) (map cells_of done)) × AreWide (length l.names) done
+    × (l.texts ≡ flat_map (λ row. row) done) × AreWide (length l.names) done
     × (l.count ≡ length done) × (length done ≤ 262144)
 
 abbrev pub decreases-rows : goal.decreases-rows

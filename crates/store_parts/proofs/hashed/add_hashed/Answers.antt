@@ -1,5 +1,4 @@
-use Rattle.std.proofs.Common.{◌∙◌, ◌++◌, ◌∷◌, [], ℕ, ℤ, Some, ap, subst, refl, rules, unwrap_or}
-use Rattle.smallvec.specs.SmallVec.{SmallVec}
+use Rattle.std.proofs.Common.{◌∙◌, ◌++◌, ◌∷◌, [], ℤ, Some, ap, subst, refl, rules, unwrap_or}
 use Rattle.std.specs.HashMap.Entry.{map_with_value}
 use Rattle.std.proofs.lemmas.Result.{err_from_is_err_and}
 use Rattle.std.proofs.lemmas.Int.{to_z-of_z}
@@ -16,8 +15,8 @@ returns-in_err-push-clause-err c = λ values h.
     let kept = map_put_kept values (to_z w128 (of_z w128 c.args.value)) c.args.map.now.entries
     (map_with_value c.in_ok-map.field-0 c.push.new.self).entries c.new.result c.push.new.self _ refl
     (hashed_put (to_z w128 (of_z w128 c.args.value)) c.push.new.self _ c.args.map.now.entries _
-    (c.in_ok-map.ensures.update.1 c.push.new.self)) c.new.ensures.items
-    (ap (λ (v : SmallVec ℕ). v.items) (c.in_err-push.ensures.err ∙ had)) h in
+    (c.in_ok-map.ensures.update.1 c.push.new.self)) c.new.ensures
+    (c.in_err-push.ensures.err ∙ had) h in
     rw (p.1) (search (rules, kept))
 
 pub returns-clause-ok : goal.returns-clause-ok
@@ -27,8 +26,8 @@ returns-clause-ok c = λ values at_end h.
     let added = map_put_pushed values (to_z w128 (of_z w128 c.args.value)) c.args.place c.args.map.now.entries
     (map_with_value c.in_ok-map.field-0 c.push.new.self).entries c.new.result c.push.new.self _ refl
     (hashed_put (to_z w128 (of_z w128 c.args.value)) c.push.new.self _ c.args.map.now.entries _
-    (c.in_ok-map.ensures.update.1 c.push.new.self)) c.new.ensures.items
-    (c.in_ok-push.ensures.ok ∙ ap (λ (v : SmallVec ℕ). v.items ++ c.args.place ∷ []) had) at_end h in
+    (c.in_ok-map.ensures.update.1 c.push.new.self)) c.new.ensures
+    (c.in_ok-push.ensures.ok ∙ ap (λ places. places ++ c.args.place ∷ []) had) at_end h in
     let P : ℤ → Type 0 = λ v. IsMapOf (values ++ Some v ∷ [])
     (map_with_value c.in_ok-map.field-0 c.push.new.self).entries in
     let whole = subst P (to_z-of_z w128 c.args.value fits) added in

@@ -13,12 +13,12 @@ returns-in-Some c =
     let found = ap option_copied (sym c.in-Some.is) ∙ c.get.ensures.value in
     let all = gathered-found c.args.value _ c.args.map.now.entries _ c.len.ensures.unique
     (to_z-of_z w128 c.args.value fits) found in
-    let P : List ℕ → Type 0 = λ ps. IfOk c.from_slice.result (λ found. found.items ≡ ps) in
-    subst P (c.as_slice.ensures ∙ all) c.from_slice.ensures.ok
+    let P : List ℕ → Type 0 = λ ps. IfOk c.from_slice.result (λ found. found ≡ ps) in
+    subst P (c.as_slice.ensures ∙ all) c.from_slice.ensures
 
 pub returns-in-None : goal.returns-in-None
 returns-in-None c =
     let fits : SFits w128 c.args.value = search rules in
     let found = ap option_copied (sym c.in-None.is) ∙ c.get.ensures.value in
-    c.new.ensures.items ∙ gathered-found c.args.value _ c.args.map.now.entries _ c.len.ensures.unique
+    c.new.ensures ∙ gathered-found c.args.value _ c.args.map.now.entries _ c.len.ensures.unique
     (to_z-of_z w128 c.args.value fits) found

@@ -5,5 +5,5 @@ use Rattle.store_parts.proofs.index.gather_among.Goals as goal
 
 pub returns-then-is_beyond : goal.returns-then-is_beyond
 returns-then-is_beyond c =
-    c.new.ensures.items ∙ sym (gathered-beyond c.args.ends c.args.window (entries_of c.args.map.now) c.requires
+    c.new.ensures ∙ sym (gathered-beyond c.args.ends c.args.window (entries_of c.args.map.now) c.requires
     (sym c.is_beyond.ensures ∙ c.if-is_beyond.true))

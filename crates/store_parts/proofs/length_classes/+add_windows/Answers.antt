@@ -16,8 +16,8 @@ returns n c =
     let most = to_z w128 (of_z w128 c.args.most) in
     let next = to_z w128 (of_z w128 c.next_most.result) in
     let x = to_z w128 (of_z w128 c.args.x) in
-    let old = c.args.windows.now.items in
-    let more = windows_more old c.push.new.self.items c.point_window.result c.args.left (c.args.left - 1)
+    let old = c.args.windows.now in
+    let more = windows_more old c.push.new.self c.point_window.result c.args.left (c.args.left - 1)
     hash c.args.class
     most next x c.in_ok-push.ensures.ok c.point_window.ensures
     (to_z-of_z w128 c.next_most.result fits ∙ c.next_most.ensures.value) one
@@ -25,5 +25,5 @@ returns n c =
     ∙ ap (λ m. old ++ windows_from c.args.left c.args.hash c.args.class m x) (to_z-of_z w128 c.args.most c.ranges.most)
     ∙ ap (λ x. old ++ windows_from c.args.left c.args.hash c.args.class c.args.most x)
     (to_z-of_z w128 c.args.x c.ranges.x) in
-    let P : List Window → Type 0 = λ ws. OnOk c.add_windows.result (c.add_windows.new.windows.items ≡ ws) in
+    let P : List Window → Type 0 = λ ws. OnOk c.add_windows.result (c.add_windows.new.windows ≡ ws) in
     subst P more c.add_windows.ensures

@@ -10,6 +10,6 @@ unfolding windows_of
 returns c =
     let x = to_z w128 (of_z w128 c.args.x) in
     c.in_ok-add_windows.ensures
-    ∙ ap (λ ws. ws ++ windows_of (to_z w128 (of_z w128 c.args.hash)) x) c.in_ok-windows.ensures.items
+    ∙ ap (λ ws. ws ++ windows_of (to_z w128 (of_z w128 c.args.hash)) x) (c.from_vec-windows.ensures ∙ c.in_ok-with_capacity.ensures.items)
     ∙ ap (λ h. windows_of h x) (to_z-of_z w128 c.args.hash c.ranges.hash)
     ∙ ap (windows_of c.args.hash) (to_z-of_z w128 c.args.x c.ranges.x)

@@ -7,6 +7,6 @@ use Rattle.store_parts.proofs.ordered.gather_ordered.Given as goal
 
 abbrev pub invariant-loop-entry : goal.invariant-loop-entry
 invariant-loop-entry l =
-    l.found.items ++ flat_map (λ e. e.1.items) l.entry-iterator
-    ≡ flat_map (λ e. e.1.items) (filter (λ e. range_contains int_cmp (start_of l.fn.from) (end_of l.fn.to) e.0)
+    l.found ++ flat_map (λ e. e.1) l.entry-iterator
+    ≡ flat_map (λ e. e.1) (filter (λ e. range_contains int_cmp (start_of l.fn.from) (end_of l.fn.to) e.0)
     l.map.entries)

@@ -1,11 +1,12 @@
-use Rattle.std.proofs.Common.{◌∙◌, refl, sym, arith}
-use Rattle.row_cells.proofs.BadCells.{good-more, good-row, row-within}
+use Rattle.std.proofs.Common.{◌∙◌, arith, refl, sym}
+use Rattle.row_cells.proofs.BadCells.{bad-text, good-more, good-text, row-within}
 use Rattle.row_cells.proofs.table.Table.numbers.Goals as goal
 
 pub loop-place-preserved : goal.loop-place-preserved
 loop-place-preserved c =
     good-more c.args.column c.args.self.now.rows c.loop-place.place c.at-row.result.now c.at-row.ensures
-    (good-row c.args.column c.at-row.result.now c.at.result.now c.at.ensures (sym c.bad.ensures ∙ c.if-bad.false))
+    (good-text c.args.column c.at-row.result.now c.text_at.result.now c.text_at.ensures
+    (sym c.bad.ensures ∙ c.if-bad.false))
     c.loop-place.invariant
 
 pub returns-clause-ok : goal.returns-clause-ok
@@ -22,7 +23,8 @@ returns-then-bad-clause-first c = record {
   place = c.loop-place.place;
   row = c.at-row.result.now;
   there = c.at-row.ensures;
-  bad = record { cell = c.at.result.now; there = c.at.ensures; bad = sym c.bad.ensures ∙ c.if-bad.true };
+  bad = bad-text c.args.column c.at-row.result.now c.text_at.result.now c.text_at.ensures
+      (sym c.bad.ensures ∙ c.if-bad.true);
   before = c.loop-place.invariant;
   counted = refl;
 }

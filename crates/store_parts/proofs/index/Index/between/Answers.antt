@@ -1,14 +1,10 @@
-use Rattle.std.proofs.Common.{◌∙◌, List, ℕ, sym, subst, rules}
-use Rattle.std.specs.List.Sorted.{IsPermutation}
+use Rattle.std.proofs.Common.{subst, sym}
 use Rattle.store_parts.specs.Places.{IsMapOf}
-use Rattle.store_parts.proofs.MapRanges.{refilled, sorted_places}
+use Rattle.store_parts.proofs.MapRanges.{sorted_places}
 use Rattle.store_parts.proofs.index.Index.between.Goals as goal
 
 pub returns : goal.returns
 returns c = λ values indexed.
-    let P : List ℕ → Type 0 = λ ps. IsPermutation ps c.sort_unstable.new.self in
-    let moved = subst P c.deref_mut.ensures.value c.sort_unstable.ensures.permutation in
-    let whole = refilled c.in_ok-found.found.items c.sort_unstable.new.self moved
-    ∙ sorted_places c.args.from c.args.to values _ c.in_ok-found.found.items c.sort_unstable.new.self
-    (subst (IsMapOf values) (sym c.self.view_is) indexed) c.in_ok-found.ensures moved c.sort_unstable.ensures.sorted in
-    search (rules, whole)
+    sorted_places c.args.from c.args.to values _ c.in_ok-found.found c.in_ok-rising.rising
+    (subst (IsMapOf values) (sym c.self.view_is) indexed) c.in_ok-found.ensures c.in_ok-rising.ensures.same
+    c.in_ok-rising.ensures.rising

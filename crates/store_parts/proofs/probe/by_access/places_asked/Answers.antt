@@ -7,12 +7,12 @@ within-requires c = made_apart c.args.access.now c.args.tuple.now _ (c.as_slice.
 
 pub returns-clause-stands : goal.returns-clause-stands
 returns-clause-stands c =
-    let given = asked_given c.within.result (λ x. x.items) c.args.access.now c.args.tuple.now c.args.others.now.tuples
+    let given = asked_given c.within.result (λ x. x) c.args.access.now c.args.tuple.now c.args.others.now.tuples
     c.args.others.now.index _ (c.as_slice.ensures ∙ c.in_ok-windows.ensures) c.requires c.within.ensures in
-    stands_from_asked c.within.result (λ x. x.items) c.args.access.now c.args.tuple.now c.args.others.now.tuples given
+    stands_from_asked c.within.result (λ x. x) c.args.access.now c.args.tuple.now c.args.others.now.tuples given
 
 pub returns-clause-below : goal.returns-clause-below
 returns-clause-below c =
-    let given = asked_given c.within.result (λ x. x.items) c.args.access.now c.args.tuple.now c.args.others.now.tuples
+    let given = asked_given c.within.result (λ x. x) c.args.access.now c.args.tuple.now c.args.others.now.tuples
     c.args.others.now.index _ (c.as_slice.ensures ∙ c.in_ok-windows.ensures) c.requires c.within.ensures in
-    below_from_asked c.within.result (λ x. x.items) c.args.access.now c.args.tuple.now c.args.others.now.tuples given
+    below_from_asked c.within.result (λ x. x) c.args.access.now c.args.tuple.now c.args.others.now.tuples given

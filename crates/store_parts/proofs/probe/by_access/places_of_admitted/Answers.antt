@@ -15,19 +15,19 @@ loop-place-preserved c =
       | then-is_admitted+in_ok-push w ↦
           rw (w.kept-is) (record {
             same = ap (at_places c.args.others.now) w.in_ok-push.ensures.ok
-                ∙ kept_one test c.args.others.now c.args.places.now c.loop-place.kept.items c.loop-place.place-index _
+                ∙ kept_one test c.args.others.now c.args.places.now c.loop-place.kept c.loop-place.place-index _
                 c.at.result.now place c.at.ensures
                 c.loop-place.invariant.same (sym c.is_admitted.ensures ∙ w.if-is_admitted.true);
             below =
                 let P : List ℕ → Type 0 = λ ps. All (λ p. p < length c.args.others.now) ps in
                 subst P (sym w.in_ok-push.ensures.ok)
                 (All-push (λ (p : ℕ). p < length c.args.others.now)
-                c.loop-place.kept.items _ c.loop-place.invariant.below
+                c.loop-place.kept _ c.loop-place.invariant.below
                 (c.requires c.loop-place.place-index 0 c.loop-place-test.true));
           })
       | else-is_admitted w ↦
           rw (w.kept-is) (record {
-            same = kept_none test c.args.others.now c.args.places.now c.loop-place.kept.items c.loop-place.place-index _
+            same = kept_none test c.args.others.now c.args.places.now c.loop-place.kept c.loop-place.place-index _
                 c.at.result.now place c.at.ensures
                 c.loop-place.invariant.same (sym c.is_admitted.ensures ∙ w.if-is_admitted.false);
             below = c.loop-place.invariant.below;

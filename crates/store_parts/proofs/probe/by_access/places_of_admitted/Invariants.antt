@@ -6,7 +6,7 @@ use Rattle.store_parts.proofs.probe.by_access.places_of_admitted.Given as goal
 
 abbrev pub invariant-loop-place : goal.invariant-loop-place
 invariant-loop-place l = record {
-  same : at_places l.others l.kept.items ≡ filter (is_admitted l.access l.tuple)
+  same : at_places l.others l.kept ≡ filter (is_admitted l.access l.tuple)
       (at_places l.others (take l.place-index l.places));
-  below : All (λ place. place < length l.others) l.kept.items;
+  below : All (λ place. place < length l.others) l.kept;
 }
