@@ -6,8 +6,9 @@
 The checks are those of `rt ci`, by its own functions: each crate from nothing, over the statements of those below it,
 which takes about half the time that it takes over whole libraries. Their order is another. `rt ci` shares the
 processors out to all that is ready, and gives a crate that is ready alone two of them; but whoever waits for a first
-build waits for the longest way up to the program. So here a crate on it is begun as soon as it can be, with four jobs,
-and beside it stand three others with one each, those with the most above them first. Of the two compilers that `rt ci`
+build waits for the longest way up to the program. So here a crate on it is begun as soon as it can be, with two jobs,
+or four where nothing else is at work, and beside it stand three others with one each, those with the most above them
+first. Of the two compilers that `rt ci`
 holds against each other only LLVM makes the program.
 
 What is proved is kept in crates/jm/out/kept, for the next start. What `rt ci` has kept on this machine is taken as
